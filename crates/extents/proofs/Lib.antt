@@ -1,0 +1,12 @@
+pub mod Grid
+pub mod Straights
+pub mod Chain
+pub mod Reading
+pub mod Found
+pub mod Barriers
+pub mod Walk
+pub mod Runs
+pub mod Paths
+pub mod Tried
+pub mod Calls
+pub mod Sizes

@@ -1,0 +1,5 @@
+use Rattle.extents.proofs.Walk.{walk-keys}
+use Rattle.extents.proofs.laws.law_walk_keys.Needs as need
+
+pub returns : need.returns
+returns c = walk-keys

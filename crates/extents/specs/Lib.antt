@@ -1,0 +1,3 @@
+pub mod Extents
+pub mod Runs
+pub mod Laws

@@ -14,7 +14,7 @@ use Rattle.std.proofs.shelf.Tests.{cases-lt, cases-eq, lt-ltb, le-ltb, cond-tru
 use Rattle.extents.specs.Extents.{Multiple, trunc, path, clearing, pathLength, pathKey}
 use Rattle.extents.proofs.Grid.{trunc-multiple, trunc-self}
 use Rattle.extents.proofs.Chain.{bit-zero}
-use Rattle.extents.proofs.Walk.{multiple-mod}
+use Rattle.extents.proofs.Greed.{multiple-mod}
 use Rattle.extents.proofs.Paths.{clear, clearing-done, clearing-more, path-length}
 
 pub low-ones : (b : ℕ) → ones (bitAnd b 4095) ≤ 12

@@ -4,9 +4,11 @@ pub mod Chain
 pub mod Reading
 pub mod Found
 pub mod Barriers
-pub mod Walk
-pub mod Runs
+pub mod Greed
+pub mod OneRun
+pub mod Walking
 pub mod Paths
 pub mod Tried
 pub mod Calls
 pub mod Sizes
+pub mod Looks

@@ -13,11 +13,11 @@ use lib.Count.{ones, ones-step}
 use lib.Dec.{eqb}
 use lib.ListN.{length}
 use Rattle.std.proofs.shelf.Tests.{cases-eq, eq-eqb, ne-eqb, cond-true, cond-false}
-use Rattle.extents.specs.Extents.{FileMap, KeyTable, KeysOf, Multiple, trunc, clearing, path, look, lookup}
+use Rattle.extents.specs.Extents.{FileMap, KeyTable, KeysOf, Multiple, trunc, clearing, path, lookup}
 use Rattle.extents.proofs.Grid.{finer, trunc-multiple, trunc-le, trunc-lt, trunc-self}
 use Rattle.extents.proofs.Chain.{rest, rest-zero, rest-one, bit-zero, bit-one, trunc-trunc}
-use Rattle.extents.proofs.Walk.{multiple-mod, mod-multiple}
-use Rattle.extents.proofs.Reading.{reads}
+use Rattle.extents.proofs.Greed.{multiple-mod, mod-multiple}
+use Rattle.extents.proofs.Reading.{look, look-first, reads}
 
 -- to clear the lowest one bit
 clear-sum : (q k : ℕ) → bitAnd (q * 2 ^ suc k + 2 ^ k) (q * 2 ^ suc k + (2 ^ k - 1)) ≡ q * 2 ^ suc k
@@ -116,4 +116,4 @@ path-length b =
 
 pub reads-back : (m : FileMap) (t : KeyTable) → KeysOf m t → (b : ℕ) → lookup t b ≡ m b
 unfolding lookup
-reads-back m t can b = ap (look t b) (path-chain b) ∙ reads m t can b
+reads-back m t can b = look-first t b (path b) ∙ ap (look t b) (path-chain b) ∙ reads m t can b

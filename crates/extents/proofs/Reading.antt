@@ -13,10 +13,28 @@ use Rattle.std.specs.declared.option.Option.the-variants.{Some, None}
 use Rattle.blocks.specs.Blocks.{inside}
 use Rattle.blocks.specs.declared.Entry.{Entry}
 use Rattle.blocks.proofs.Changes.{inside-yes, inside-after}
-use Rattle.extents.specs.Extents.{FileMap, KeyTable, entry, Aligned, Multiple, Straight, IsKey, KeysOf, trunc, rises, look, heldOr}
+use Rattle.extents.specs.Extents.{FileMap, KeyTable, entry, Aligned, Multiple, Straight, IsKey, KeysOf, trunc, rises, path, heldAt, firstHeld, says, lookup}
 use Rattle.extents.proofs.Grid.{gap, finer, nested, trunc-multiple, trunc-le, trunc-lt, trunc-only}
 use Rattle.extents.proofs.Straights.{some-none, known, at-block, key-same, rises-sound, is-key}
 use Rattle.extents.proofs.Chain.{rest, trunc-order, trunc-trunc, bit-zero, bit-one, Below, rest-below, rest-zero, rest-one}
+
+-- the look-up in one: what the key at x says of block b, where one is held, or else r
+abbrev heldOr : Option Entry → ℕ → ℕ → Option ℕ → Option ℕ
+heldOr None b x r = r
+heldOr (Some e) b x r = cond (inside x (e .length) b) (Some (e .board + (b - x))) None
+
+unfoldable pub look : KeyTable → ℕ → List ℕ → Option ℕ
+look t b [] = None
+look t b (x ∷ xs) = heldOr (t x) b x (look t b xs)
+
+pub look-first : (t : KeyTable) (b : ℕ) (xs : List ℕ) → says (firstHeld t xs) b ≡ look t b xs
+unfolding firstHeld look
+look-first t b [] = refl
+look-first t b (x ∷ xs) = at (t x) (look-first t b xs)
+  where
+    at : (o : Option Entry) → says (firstHeld t xs) b ≡ look t b xs → says (heldAt o x (firstHeld t xs)) b ≡ heldOr o b x (look t b xs)
+    at None e = e
+    at (Some k) e = refl
 
 pub record Top (m : FileMap) (b : ℕ) : Type 0 where
   pub j : ℕ

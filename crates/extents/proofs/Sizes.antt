@@ -1,19 +1,22 @@
 -- The greedy exponent from trailing and leading zeros, and a table mended between two barriers.
 use mathlib.Core.Path.{_≡_, refl, sym, ap, subst, _∙_}
 use mathlib.Core.Logic.{_⊎_, inl, inr, _↔_}
+use mathlib.Core.Bool.{cond}
 use Prim.Native.Nat.{ℕ, zero, suc, _+_, _-_, _*_, _/_, _%_, _^_, _≤_, _<_, min}
 use native.Mathlib.Nat.{pow-suc}
 use native.Mathlib.Omega.{arith}
 use lib.Pow.{pow-pos, pow-mono}
+use lib.Dec.{eqb}
 use lib.Count.{trailingZeros, leadingZeros, under, leading-top}
-use Rattle.std.proofs.shelf.Tests.{cases-lt, cases-eq}
+use Rattle.std.proofs.shelf.Tests.{cases-lt, cases-eq, ne-eqb, cond-false}
+use Rattle.std.proofs.shelf.Bits.{one-shl}
 use Rattle.std.specs.declared.option.Option.{Option}
 use Rattle.std.specs.declared.option.Option.the-variants.{Some, None}
 use Rattle.extents.specs.Extents.{FileMap, KeyTable, entry, Aligned, Multiple, IsKey, KeysOf}
-use Rattle.extents.specs.Runs.{Greedy, sizeFrom}
+use Rattle.extents.specs.Runs.{Greedy, sizeFrom, piece}
 use Rattle.extents.specs.Laws.{Mended, Size-by-zeros, sizeByZeros}
 use Rattle.extents.proofs.Grid.{finer}
-use Rattle.extents.proofs.Walk.{size-greedy}
+use Rattle.extents.proofs.Greed.{size-greedy, piece-pos, piece-fits, piece-small}
 use Rattle.extents.proofs.Barriers.{keys-beyond}
 
 -- a multiple of 2 ^ (k + 1) is even, and its half is one of 2 ^ k
@@ -74,6 +77,30 @@ size-by-zeros x r h l = greedy (leading-top 32 (r - x) (omega arith) (omega arit
         below : (i j : ℕ) → 2 ^ i ≤ r - x → r - x < 2 ^ suc j → (j < i) ⊎ (i ≤ j) → i ≤ j
         below i j s g (inl o) = let p : 2 ^ suc j ≤ 2 ^ i = pow-mono o in absurd (omega arith)
         below i j s g (inr o) = o
+
+-- what the code computes from zeros is the length of the walk's next extent
+pub piece-by-zeros : (x left k : ℕ) → (left ≡ 0 → ⊥) → left < 2 ^ 32
+    → k ≡ min (min (trailingZeros 32 x) (31 - leadingZeros 32 left)) 12 → (1 * 2 ^ k) % 2 ^ 32 ≡ cond (eqb left 0) 0 (piece x (x + left))
+unfolding piece
+piece-by-zeros x left k ne small e =
+    let whole : (x + left) - x ≡ left = omega arith in
+    let g : Greedy x (x + left) (sizeByZeros x left) =
+    subst (λ n. Greedy x (x + left) (sizeByZeros x n)) whole (size-by-zeros x (x + left) (omega arith) (omega arith)) in
+    let f : k ≡ sizeByZeros x left = omega arith in
+    let s : sizeByZeros x left ≡ sizeFrom 12 x (x + left) = greedy-one x (x + left) (sizeByZeros x left) (sizeFrom 12 x (x + left)) g (size-greedy x (x + left) (omega arith)) in
+    let h : k < 32 = omega arith in
+    one-shl k 32 h ∙ ap (λ n. 2 ^ n) (f ∙ s) ∙ sym (cond-false (eqb left 0) 0 (2 ^ sizeFrom 12 x (x + left)) (ne-eqb left 0 ne))
+
+-- the same where what is left is told by the end, with what the walk needs of it
+pub next-piece : (x r n : ℕ) → x < r → n ≡ cond (eqb (r - x) 0) 0 (piece x (x + (r - x)))
+    → (n ≡ piece x r) × (0 < n) × (x + n ≤ r) × (n ≤ 4096)
+next-piece x r n l e = (is, omega (arith, is, piece-pos x r), omega (arith, is, piece-fits x r l), omega (arith, is, piece-small x r l))
+  where
+    is : n ≡ piece x r
+    is =
+        let whole : x + (r - x) ≡ r = omega arith in
+        let ne : r - x ≡ 0 → ⊥ = λ z. omega arith in
+        e ∙ cond-false (eqb (r - x) 0) 0 (piece x (x + (r - x))) (ne-eqb (r - x) 0 ne) ∙ ap (piece x) whole
 
 pub mended : Mended
 mended m n l r same ml mr nl nr t u can out ins a s p = at (cases-lt a l) (cases-lt a r)

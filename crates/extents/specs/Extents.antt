@@ -11,6 +11,7 @@ use Rattle.std.specs.declared.option.Option.{Option}
 use Rattle.std.specs.declared.option.Option.the-variants.{Some, None}
 use Rattle.blocks.specs.Blocks.{inside}
 use Rattle.blocks.specs.declared.Entry.{Entry}
+use Rattle.extents.specs.declared.key.Key.{Key}
 
 -- One file's map: the board number of each block that has one.
 abbrev pub FileMap : Type 0
@@ -65,21 +66,27 @@ unfoldable pub path : ℕ → List ℕ
 unfolding clearing
 path b = clearing 12 b
 
--- what the key at x says of block b, where one is held, or else r
-abbrev pub heldOr : Option Entry → ℕ → ℕ → Option ℕ → Option ℕ
-heldOr None b x r = r
-heldOr (Some e) b x r = cond (inside x (e .length) b) (Some (e .board + (b - x))) None
+abbrev pub key : ℕ → ℕ → ℕ → Key
+key a s p = record { start = a; length = s; board = p }
 
--- The starts are tried in order up to the first at which a key is held.
--- If that key's extent contains b, the answer is its board number plus b less its start; else b is a hole.
-unfoldable pub look : KeyTable → ℕ → List ℕ → Option ℕ
-look t b [] = None
-look t b (x ∷ xs) = heldOr (t x) b x (look t b xs)
+abbrev pub heldAt : Option Entry → ℕ → Option Key → Option Key
+heldAt None x r = r
+heldAt (Some e) x r = Some (key x (e .length) (e .board))
 
--- the look-up of a block: along its path
+-- the key at the first of the starts at which one is held
+unfoldable pub firstHeld : KeyTable → List ℕ → Option Key
+firstHeld t [] = None
+firstHeld t (x ∷ xs) = heldAt (t x) x (firstHeld t xs)
+
+-- what it says of block b: if its extent contains b, the board number is its own plus b less its start; else b is a hole
+abbrev pub says : Option Key → ℕ → Option ℕ
+says None b = None
+says (Some k) b = cond (inside (k .start) (k .length) b) (Some (k .board + (b - k .start))) None
+
+-- the look-up of a block: its path is tried in order up to the first key that is held
 unfoldable pub lookup : KeyTable → ℕ → Option ℕ
-unfolding look path
-lookup t b = look t b (path b)
+unfolding firstHeld path
+lookup t b = says (firstHeld t (path b)) b
 
 abbrev pub onlyHere : Option Entry → ℕ → ℕ
 onlyHere None n = suc n

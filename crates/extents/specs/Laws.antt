@@ -11,8 +11,8 @@ use Rattle.std.specs.Options.{isSome}
 use Rattle.std.specs.declared.option.Option.{Option}
 use Rattle.std.specs.declared.option.Option.the-variants.{Some, None}
 use Rattle.blocks.specs.declared.Entry.{Entry}
-use Rattle.extents.specs.Extents.{FileMap, KeyTable, entry, Multiple, IsKey, KeysOf, path, lookup, tried, keyAt, Barrier, Outside, Agree}
-use Rattle.extents.specs.Runs.{Run, runMap, key, walk, Holds, ListsKeys, Greedy}
+use Rattle.extents.specs.Extents.{FileMap, KeyTable, entry, Multiple, IsKey, KeysOf, path, lookup, tried, keyAt, Barrier, Outside, Agree, key}
+use Rattle.extents.specs.Runs.{Run, runMap, walk, Holds, ListsKeys, Greedy}
 
 -- The look-up over the table of a map's keys reads the map back at every block, holes included.
 abbrev pub Reads-back : Type 0

@@ -12,8 +12,8 @@ use Rattle.faults.specs.declared.Ground.{Ground}
 use Rattle.faults.specs.declared.Ground.the-variants.{Block, Length, BoardNumber}
 use Rattle.blocks.specs.Blocks.{inside}
 use Rattle.blocks.specs.declared.Entry.{Entry}
-use Rattle.extents.specs.declared.run.Key.{Key}
-use Rattle.extents.specs.Extents.{FileMap, KeyTable, entry, Aligned, IsKey}
+use Rattle.extents.specs.declared.key.Key.{Key}
+use Rattle.extents.specs.Extents.{FileMap, KeyTable, entry, key, Aligned, IsKey}
 
 -- the blocks from l up to r are mapped, and their numbers rise by one from p
 abbrev pub Run : FileMap → ℕ → ℕ → ℕ → Type 0
@@ -47,9 +47,6 @@ sizeFrom (suc n) x r = cond (eqb (x % 2 ^ suc n) 0 && leb (x + 2 ^ suc n) r) (su
 -- the length of the walk's next extent at x on its way to r
 unfoldable pub piece : ℕ → ℕ → ℕ
 piece x r = 2 ^ sizeFrom 12 x r
-
-abbrev pub key : ℕ → ℕ → ℕ → Key
-key a s p = record { start = a; length = s; board = p }
 
 -- the walk from x to r, at the board numbers from p: the largest extent, and on from its end (in at most n steps)
 unfoldable pub walk : ℕ → ℕ → ℕ → ℕ → List Key

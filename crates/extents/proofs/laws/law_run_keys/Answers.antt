@@ -1,4 +1,4 @@
-use Rattle.extents.proofs.Runs.{run-keys}
+use Rattle.extents.proofs.OneRun.{run-keys}
 use Rattle.extents.proofs.laws.law_run_keys.Needs as need
 
 pub returns : need.returns

@@ -7,18 +7,22 @@ use Prim.Native.Nat.{ℕ, zero, suc, _+_, _-_, _^_, _≤_, _<_}
 use native.Mathlib.Omega.{arith}
 use lib.Dec.{eqb}
 use lib.Pow.{pow-pos}
-use Rattle.std.proofs.shelf.Tests.{cases-lt, cases-bool, eqb-true, eq-eqb, cond-true, cond-false}
+use lib.ListN.{length, getD, drop}
+use lib.Seq.{drop-cons}
+use native.Mathlib.Numerals.{add-one}
+use Rattle.std.proofs.shelf.Lists.{drop-all}
+use Rattle.std.proofs.shelf.Tests.{cases-lt, cases-bool, eqb-true, eq-eqb, ne-eqb, cond-true, cond-false}
 use Rattle.std.specs.declared.option.Option.{Option}
 use Rattle.std.specs.declared.option.Option.the-variants.{Some, None}
 use Rattle.blocks.specs.Blocks.{inside}
 use Rattle.blocks.specs.declared.Entry.{Entry}
 use Rattle.blocks.proofs.Changes.{inside-yes, inside-before, inside-after}
-use Rattle.extents.specs.declared.run.Key.{Key}
-use Rattle.extents.specs.Extents.{FileMap, KeyTable, entry, Straight, IsKey, KeysOf, Barrier, lookup}
-use Rattle.extents.specs.Runs.{Run, runMap, key, walk, Holds, ListsKeys, orAt, tableOf}
+use Rattle.extents.specs.declared.key.Key.{Key}
+use Rattle.extents.specs.Extents.{FileMap, KeyTable, entry, Straight, IsKey, KeysOf, Barrier, lookup, key}
+use Rattle.extents.specs.Runs.{Run, runMap, walk, Holds, ListsKeys, orAt, tableOf}
 use Rattle.extents.specs.Laws.{Run-keys}
 use Rattle.extents.proofs.Straights.{some-none, at-block, key-same}
-use Rattle.extents.proofs.Walk.{walk-keys}
+use Rattle.extents.proofs.Greed.{walk-keys}
 use Rattle.extents.proofs.Paths.{reads-back}
 
 -- ---- one run
@@ -114,3 +118,24 @@ listed m ks h a s p = ((λ e. h a s p .1 (table-holds ks a s p e)), back)
 -- the look-up over the keys of a run reads the run back
 pub run-reads : (first n p : ℕ) (ks : List Key) → ListsKeys (runMap first n p) ks → (b : ℕ) → lookup (tableOf ks) b ≡ runMap first n p b
 run-reads first n p ks h b = reads-back (runMap first n p) (tableOf ks) (listed (runMap first n p) ks h) b
+
+-- ---- the table of what is left of a list
+
+split-at : (ks : List Key) (i : ℕ) (d : Key) → i < length ks → drop i ks ≡ getD ks i d ∷ drop (i + 1) ks
+split-at ks i d l = rw add-one (drop-cons ks i d l)
+
+pub table-here : (ks : List Key) (i : ℕ) (d : Key) (x : ℕ) → i < length ks → getD ks i d .start ≡ x
+    → tableOf (drop i ks) x ≡ Some (entry (getD ks i d .length) (getD ks i d .board))
+unfolding tableOf
+table-here ks i d x l e =
+    ap (λ t. tableOf t x) (split-at ks i d l) ∙ ap (λ b. orAt b (getD ks i d) (tableOf (drop (i + 1) ks) x)) (eq-eqb (getD ks i d .start) x e)
+
+pub table-past : (ks : List Key) (i : ℕ) (d : Key) (x : ℕ) → i < length ks → (getD ks i d .start ≡ x → ⊥)
+    → tableOf (drop i ks) x ≡ tableOf (drop (i + 1) ks) x
+unfolding tableOf
+table-past ks i d x l ne =
+    ap (λ t. tableOf t x) (split-at ks i d l) ∙ ap (λ b. orAt b (getD ks i d) (tableOf (drop (i + 1) ks) x)) (ne-eqb (getD ks i d .start) x ne)
+
+pub table-end : (ks : List Key) (i x : ℕ) → length ks ≤ i → tableOf (drop i ks) x ≡ None
+unfolding tableOf
+table-end ks i x l = ap (λ t. tableOf t x) (drop-all i ks l)

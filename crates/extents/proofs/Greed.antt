@@ -11,8 +11,8 @@ use lib.Dec.{eqb, leb, ltb}
 use Rattle.std.proofs.shelf.Tests.{cases-lt, cases-bool, cases-eq, and-parts, and-from, eqb-true, leb-true, eq-eqb, le-leb, lt-ltb, le-ltb, cond-true, cond-false}
 use Rattle.std.specs.declared.option.Option.{Option}
 use Rattle.std.specs.declared.option.Option.the-variants.{Some, None}
-use Rattle.extents.specs.Extents.{FileMap, Aligned, Multiple, Straight, IsKey, Barrier, trunc}
-use Rattle.extents.specs.Runs.{Greedy, Run, sizeFrom, piece, key, walk, Holds}
+use Rattle.extents.specs.Extents.{FileMap, Aligned, Multiple, Straight, IsKey, Barrier, trunc, key}
+use Rattle.extents.specs.Runs.{Greedy, Run, sizeFrom, piece, walk, Holds}
 use Rattle.extents.specs.Laws.{Walk-keys}
 use Rattle.extents.proofs.Grid.{gap, finer, sum, itself, trunc-self}
 use Rattle.extents.proofs.Straights.{some-none, at-block, meets, key-same}
@@ -119,6 +119,10 @@ pub piece-fits : (x r : ℕ) → x < r → x + piece x r ≤ r
 unfolding piece
 piece-fits x r l = size-greedy x r l .fits
 
+pub piece-small : (x r : ℕ) → x < r → piece x r ≤ 4096
+unfolding piece
+piece-small x r l = let p : 2 ^ sizeFrom 12 x r ≤ 2 ^ 12 = pow-mono (size-greedy x r l .aligned .small) in omega arith
+
 -- ---- the whole walk
 
 pub walk-done : (n x r p : ℕ) → r ≤ x → walk n x r p ≡ []
@@ -129,6 +133,27 @@ walk-done (suc n) x r p h = cond-false (ltb x r) _ [] (le-ltb x r h)
 pub walk-more : (n x r p : ℕ) → x < r → walk (suc n) x r p ≡ key x (piece x r) p ∷ walk n (x + piece x r) r (p + piece x r)
 unfolding walk
 walk-more n x r p h = cond-true (ltb x r) _ [] (lt-ltb x r h)
+
+-- steps that are enough are as good as more
+pub walk-enough : (n k x r p : ℕ) → r ≤ n + x → r ≤ k + x → walk n x r p ≡ walk k x r p
+walk-enough zero k x r p a b = walk-done zero x r p (omega arith) ∙ sym (walk-done k x r p (omega arith))
+walk-enough (suc n) zero x r p a b = walk-done (suc n) x r p (omega arith) ∙ sym (walk-done zero x r p (omega arith))
+walk-enough (suc n) (suc k) x r p a b = at (cases-lt x r) (walk-enough n k (x + piece x r) r (p + piece x r))
+  where
+    at : (x < r) ⊎ (r ≤ x) → (r ≤ n + (x + piece x r) → r ≤ k + (x + piece x r) → walk n (x + piece x r) r (p + piece x r) ≡ walk k (x + piece x r) r (p + piece x r))
+        → walk (suc n) x r p ≡ walk (suc k) x r p
+    at (inl l) more =
+        walk-more n x r p l ∙ ap (λ t. key x (piece x r) p ∷ t) (more (omega (arith, piece-pos x r)) (omega (arith, piece-pos x r)))
+        ∙ sym (walk-more k x r p l)
+    at (inr l) more = walk-done (suc n) x r p l ∙ sym (walk-done (suc k) x r p l)
+
+-- what is left of a walk, in as many steps as there are blocks
+pub walk-step : (x r p : ℕ) → x < r
+    → walk (r - x) x r p ≡ key x (piece x r) p ∷ walk (r - (x + piece x r)) (x + piece x r) r (p + piece x r)
+walk-step x r p l =
+    let e : r - x ≡ suc (r - (x + 1)) = omega arith in
+    ap (λ n. walk n x r p) e ∙ walk-more (r - (x + 1)) x r p l
+    ∙ ap (λ t. key x (piece x r) p ∷ t) (walk-enough (r - (x + 1)) (r - (x + piece x r)) (x + piece x r) r (p + piece x r) (omega (arith, piece-pos x r)) (omega arith))
 
 module _ (m : FileMap) (r : ℕ) (br : Barrier m r) where
   pub walk-sound : (n x p : ℕ) → Run m x r p → Barrier m x → (a s q : ℕ) → Holds a s q (walk n x r p) → IsKey m a s q

@@ -11,3 +11,10 @@ pub const EXTENT_BLOCKS: u32 = 4096;
 
 /// A board has at most so many blocks.
 pub const BOARD_BLOCKS: u32 = 4096;
+
+/// What a key carries: how many blocks it stands for, and the board number of the first.
+#[derive(Clone, Copy, PartialEq, Eq, Debug)]
+pub struct Entry {
+    pub length: u16,
+    pub board: u16,
+}

@@ -2,21 +2,22 @@
 use Prim.Native.Nat.{ℕ, zero, suc, _+_, _-_, _<_, _≤_}
 use mathlib.Core.Path.{_≡_, refl, sym, ap, fun-ext, _∙_}
 use mathlib.Core.List.{List, [], _∷_}
-use mathlib.Core.Bool.{Bool, true, false, cond, _&&_}
+use mathlib.Core.Bool.{Bool, true, false, cond, not, _&&_}
 use mathlib.Core.Logic.{_⊎_, inl, inr, _≢_}
 use native.Mathlib.Omega.{arith}
-use lib.Dec.{eqb}
+use lib.Dec.{eqb, leb}
 use lib.ListN.{length, getD, set}
 use Rattle.std.specs.Holes.{inserted, removed}
 use Rattle.std.specs.Options.{isSome}
 use Rattle.std.specs.declared.option.Option.{Option}
 use Rattle.std.specs.declared.option.Option.the-variants.{Some, None}
-use Rattle.std.proofs.shelf.Tests.{cases-eq, cond-true, cond-false, and-from, and-left, and-right, eq-eqb, ne-eqb}
+use Rattle.std.proofs.shelf.Tests.{cases-eq, cond-true, cond-false, and-from, and-left, and-right, eq-eqb, ne-eqb, not-from-true, not-from-false, le-leb, lt-leb}
 use Rattle.blocks.specs.declared.Entry.{Entry}
-use Rattle.blocks.specs.Blocks.{changed, only}
+use Rattle.blocks.specs.Blocks.{changed, only, one, tally}
 use Rattle.blocks.proofs.Changes.{changed-here, changed-beside, changed-elsewhere, only-here, only-other}
+use Rattle.blocks.proofs.Sums.{tally-change}
 use Rattle.tables.specs.declared.row.Row.{Row}
-use Rattle.tables.specs.Holding.{Holding}
+use Rattle.tables.specs.Holding.{Holding, full}
 use Rattle.tables.specs.Rows.{says, orElse, first}
 
 or-none : {X : Type 0} (a b : Option X) → a ≡ None → orElse a b ≡ b
@@ -117,3 +118,20 @@ changed-by p q file block o here there = fun-ext (λ f. fun-ext (λ b. at f b (c
         there f b (λ _ z. k (sym z)) ∙ ap (λ (n : ℕ). p n b) e
         ∙ sym (ap (λ (n : ℕ). changed p file (only block) (λ _. o) n b) e ∙ changed-beside p file (only block) (λ _. o) b (only-other block b k))
     at f b (inr e) k = there f b (λ z _. e (sym z)) ∙ sym (changed-elsewhere p file (only block) (λ _. o) f b e)
+
+-- How many keys are held after a change at one.
+pub tally-by : (p q : Holding) (file block : ℕ) (o : Option Entry) → file < 65536 → block < 65536 → q ≡ changed p file (only block) (λ _. o)
+    → tally q + one (isSome (p file block)) ≡ tally p + one (isSome o)
+tally-by p q file block o hf hb e = ap (λ (h : Holding). tally h + one (isSome (p file block))) e ∙ tally-change p file block o hf hb
+
+-- ---- whether a put is refused
+
+pub room-old : (h : Holding) (n file block : ℕ) → isSome (h file block) ≡ true → full h n file block ≡ false
+room-old h n file block e = and-left (not (isSome (h file block))) (leb n (tally h)) (not-from-true (isSome (h file block)) e)
+
+pub room-new : (h : Holding) (n file block : ℕ) → tally h < n → full h n file block ≡ false
+room-new h n file block l = and-right (not (isSome (h file block))) (leb n (tally h)) (lt-leb n (tally h) l)
+
+pub no-room : (h : Holding) (n file block : ℕ) → isSome (h file block) ≡ false → n ≤ tally h → full h n file block ≡ true
+no-room h n file block e l =
+    and-from (not (isSome (h file block))) (leb n (tally h)) (not-from-false (isSome (h file block)) e) (le-leb n (tally h) l)

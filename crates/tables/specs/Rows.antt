@@ -1,5 +1,5 @@
 -- What rows say of a key.
-use Prim.Native.Nat.{ℕ}
+use Prim.Native.Nat.{ℕ, _<_}
 use mathlib.Core.List.{List, [], _∷_}
 use mathlib.Core.Bool.{cond, _&&_}
 use lib.Dec.{eqb}
@@ -11,6 +11,10 @@ use Rattle.tables.specs.declared.row.Row.{Row}
 -- the row that is read past the last
 abbrev pub blank : Row
 blank = record { file = 0; block = 0; entry = record { length = 0; board = 0 } }
+
+-- Its file and its block are numbers that these can have.
+abbrev pub Good : Row → Type 0
+Good r = (r .file < 65536) × (r .block < 65536)
 
 -- what a row says of a key: its entry, if it is the key's
 abbrev pub says : ℕ → ℕ → Row → Option Entry

@@ -17,7 +17,7 @@ use Rattle.blocks.specs.Blocks.{changed, only, one, tally}
 use Rattle.blocks.proofs.Changes.{changed-here, changed-beside, changed-elsewhere, only-here, only-other}
 use Rattle.blocks.proofs.Sums.{tally-change}
 use Rattle.tables.specs.declared.row.Row.{Row}
-use Rattle.tables.specs.Holding.{Holding, full}
+use Rattle.tables.specs.Holding.{Holding, Numbered, full}
 use Rattle.tables.specs.Rows.{says, orElse, first}
 
 or-none : {X : Type 0} (a b : Option X) → a ≡ None → orElse a b ≡ b
@@ -118,6 +118,22 @@ changed-by p q file block o here there = fun-ext (λ f. fun-ext (λ b. at f b (c
         there f b (λ _ z. k (sym z)) ∙ ap (λ (n : ℕ). p n b) e
         ∙ sym (ap (λ (n : ℕ). changed p file (only block) (λ _. o) n b) e ∙ changed-beside p file (only block) (λ _. o) b (only-other block b k))
     at f b (inr e) k = there f b (λ z _. e (sym z)) ∙ sym (changed-elsewhere p file (only block) (λ _. o) f b e)
+
+-- Keys are still file and block numbers.
+pub numbered-by : (p q : Holding) (file block : ℕ) (o : Option Entry) → file < 65536 → block < 65536 → q ≡ changed p file (only block) (λ _. o)
+    → Numbered p → Numbered q
+numbered-by p q file block o hf hb e num f b y =
+    elim (cases-eq f file) [
+      | inl u ↦ elim (cases-eq b block) [
+        | inl v ↦ (omega arith, omega arith)
+        | inr v ↦ num f b (sym (ap isSome (at ∙ ap (λ (n : ℕ). changed p file (only block) (λ _. o) n b) u ∙ changed-beside p file (only block) (λ _. o) b (only-other block b v)
+            ∙ sym (ap (λ (n : ℕ). p n b) u))) ∙ y)
+      ]
+      | inr u ↦ num f b (sym (ap isSome (at ∙ changed-elsewhere p file (only block) (λ _. o) f b u)) ∙ y)
+    ]
+  where
+    at : q f b ≡ changed p file (only block) (λ _. o) f b
+    at = ap (λ (h : Holding). h f b) e
 
 -- How many keys are held after a change at one.
 pub tally-by : (p q : Holding) (file block : ℕ) (o : Option Entry) → file < 65536 → block < 65536 → q ≡ changed p file (only block) (λ _. o)

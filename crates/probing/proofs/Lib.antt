@@ -1,0 +1,4 @@
+pub mod SlotLaws
+pub mod Distances
+pub mod Closing
+pub mod TableLaws

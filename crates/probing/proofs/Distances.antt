@@ -2,7 +2,7 @@
 use Prim.Native.Nat.{ℕ, _+_, _-_, _<_, _≤_}
 use mathlib.Core.Path.{_≡_}
 use native.Mathlib.Omega.{arith}
-use Rattle.probing.specs.Slots.{dist}
+use Rattle.probing.specs.Slots.{dist, onto}
 
 pub dist-lt : (n h x : ℕ) → h < n → x < n → dist n h x < n
 dist-lt n h x p q = grind arith
@@ -43,3 +43,12 @@ around n h s a j x hh hs ha hj hx l m o =
     let p4 = dist-lt n h j hh hj in
     let p5 = dist-sum n h x a hh hx ha (omega arith) in
     omega arith
+
+pub onto-in : (n from k : ℕ) → from < n → k < n → onto n from k < n
+onto-in n from k p q = grind arith
+
+pub dist-onto : (n from k : ℕ) → from < n → k < n → dist n from (onto n from k) ≡ k
+dist-onto n from k p q = grind arith
+
+pub onto-dist : (n from i : ℕ) → from < n → i < n → onto n from (dist n from i) ≡ i
+onto-dist n from i p q = grind arith

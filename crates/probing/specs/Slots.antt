@@ -1,10 +1,10 @@
 -- What slots mean, and how a search goes through them.
-use Prim.Native.Nat.{ℕ, _+_, _-_, _≤_, _<_}
+use Prim.Native.Nat.{ℕ, zero, suc, _+_, _-_, _≤_, _<_}
 use mathlib.Core.Path.{_≡_}
-use mathlib.Core.Bool.{Bool, true, false, cond}
+use mathlib.Core.Bool.{Bool, true, false, cond, not, _&&_, _||_}
 use mathlib.Core.List.{List, [], _∷_}
 use mathlib.Core.Logic.{_≢_, _⊎_}
-use lib.Dec.{leb}
+use lib.Dec.{eqb, ltb, leb}
 use lib.ListN.{length, getD}
 use Rattle.std.specs.declared.option.Option.{Option}
 use Rattle.std.specs.declared.option.Option.the-variants.{Some, None}
@@ -66,6 +66,25 @@ abbrev pub Within : ℕ → Probe → Type 0
 Within n (Found i) = i < n
 Within n (Free i) = i < n
 Within n Full = Unit {0}
+
+-- ---- how far a search goes
+
+-- how many of the tests t 0, t 1, .. are made, up to the first that holds, and m at most
+abbrev pub tried : (ℕ → Bool) → ℕ → ℕ
+tried t zero = 0
+tried t (suc m) = suc (cond (t 0) 0 (tried (λ i. t (i + 1)) m))
+
+-- the slot that is so many on from one of n, going round
+abbrev pub onto : ℕ → ℕ → ℕ → ℕ
+onto n from k = cond (ltb (from + k) n) (from + k) (from + k - n)
+
+-- A search for a key ends at a slot that is free or has the key.
+abbrev pub ends : ℕ → ℕ → Slot → Bool
+ends f b s = not (s .used) || (eqb (s .row .file) f && eqb (s .row .block) b)
+
+-- how many slots a search for a key looks at, from one of n on
+abbrev pub looked : ℕ → List Slot → ℕ → ℕ → ℕ → ℕ
+looked n xs from f b = tried (λ k. ends f b (slotAt xs (onto n from k))) n
 
 -- ---- the lowest key of a file from a block on
 

@@ -12,7 +12,7 @@ ghost use Rattle.std.specs.Of.Vec.{vec-items, vec-len};
 ghost use Rattle.std.specs.Vec.{made};
 ghost use Rattle.probing.specs.contracts.slots.Slots.{the-row};
 ghost use Rattle.probing.specs.contracts.slots.Slot.{the-row as slot-row};
-ghost use Rattle.probing.specs.Slots.{free, slotAt, dist, Probed, Within, Best, Lower};
+ghost use Rattle.probing.specs.Slots.{free, slotAt, dist, Probed, Within, looked, Best, Lower};
 use blocks::Entry;
 use std::alloc::AllocError;
 use std::alloc::Global;
@@ -148,6 +148,18 @@ impl Slots {
             }
         }
         Probe::Full
+    }
+
+    /// How many slots a search for a key looks at.
+    pub fn looked(&self, from: usize, file: u16, block: u16) -> usize
+        ensures { λ r. ⌜ ((0 < vec-len (now (self .entry) .slots) → from < vec-len (now (self .entry) .slots)) → r ≡ looked (vec-len (now (self .entry) .slots)) (vec-items (now (self .entry) .slots)) from file block) ⌝ }
+    {
+        let n = self.slots.len();
+        match self.search(from, file, block) {
+            Probe::Found(i) => distance(n, from, i) + 1,
+            Probe::Free(i) => distance(n, from, i) + 1,
+            Probe::Full => n,
+        }
     }
 
     /// The row of the lowest key of a file from a block on.

@@ -6,7 +6,7 @@ ghost use Prim.Native.Nat.{ℕ, _<_, min};
 ghost use Rattle.std.specs.Of.Vec.{vec-items, vec-len};
 ghost use Rattle.std.specs.Vec.{made};
 ghost use Rattle.tables.specs.Holding.{nothing};
-ghost use Rattle.probing.specs.Slots.{look, slotAt, occupied, Sound, Closed};
+ghost use Rattle.probing.specs.Slots.{look, slotAt, looked, Sound, Closed};
 use crate::slots::*;
 use blocks::Entry;
 use std::alloc::AllocError;
@@ -40,6 +40,14 @@ impl<S: Spread> ProbingTable<S> {
             room,
             spread,
         })
+    }
+
+    /// How many rows a look-up of a key looks at.
+    pub fn rows_looked_at(&self, file: u16, block: u16) -> usize
+        ensures { λ r. ⌜ (Sound (λ f b. S·Spread .place (now (self .entry) .spread) f b (now (self .entry) .room)) (now (self .entry) .room) (vec-items (now (self .entry) .slots .slots)) (now (self .entry) .held) → r ≡ looked (now (self .entry) .room) (vec-items (now (self .entry) .slots .slots)) (S·Spread .place (now (self .entry) .spread) file block (now (self .entry) .room)) file block) ⌝ }
+    {
+        let home = self.spread.place_of(file, block, self.room);
+        self.slots.looked(home as usize, file, block)
     }
 }
 
@@ -101,8 +109,8 @@ pub impl<S: Spread> Table for ProbingTable<S> as ProbingTableTable {
         let row = Row { file, block, entry };
         let home = self.spread.place_of(file, block, self.room);
         match self.slots.search(home as usize, file, block) {
-            Probe::Found(i) => {
-                self.slots.slot_mut(i).fill(row);
+            Probe::Found(at) => {
+                self.slots.slot_mut(at).fill(row);
                 true
             }
             Probe::Free(i) => {

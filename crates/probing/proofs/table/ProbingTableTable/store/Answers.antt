@@ -16,7 +16,7 @@ returns-in-Found g c =
     let held = c .args .self .now .held in
     let home : ℕ → ℕ → ℕ = λ f b. g .S·Spread .place (c .args .self .now .spread) f b room in
     let xs = vec-items (c .args .self .now .slots .slots) in
-    let i = c .in-Found .i in
+    let i = c .in-Found .at in
     let done = λ (v : Sound home room xs held).
     replaced home room xs held (c .args .file) (c .args .block) i (c .args .entry) (omega arith) (omega arith) v
     (probe-of home room (vec-len (c .args .self .now .slots .slots)) xs (c .place-of-home .result) (c .args .file) (c .args .block) (Found i) (omega (arith, v .long)) (c .place-of-home .ensures)

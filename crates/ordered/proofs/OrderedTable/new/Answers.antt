@@ -1,0 +1,13 @@
+use mathlib.Core.Path.{refl, ap}
+use mathlib.Core.List.{List}
+use native.Mathlib.Omega.{arith}
+use Rattle.tables.specs.declared.row.Row.{Row}
+use Rattle.ordered.specs.Ordered.{lookup}
+use Rattle.ordered.proofs.OrderedLaws.{empty-sound}
+use Rattle.ordered.proofs.OrderedTable.new.Needs as need
+
+pub returns : need.returns
+returns c =
+    let m = c .in-Continue-rows .ensures tt .made in
+    let e = m .0 in
+    (rw e (empty-sound _ _ (omega (arith, m .1 .1))), ap lookup e, c .min-room .ensures)

@@ -1,0 +1,4 @@
+pub mod Spreads
+pub mod Calls
+pub mod Holding
+pub mod Rows

@@ -68,7 +68,7 @@ impl<'a> MemoryBoard<'a> {
     pub fn new(bytes: &'a mut [u8]) -> Self
         ensures { λ r. ⌜ r .bytes ≡ bytes .entry ⌝ }
     {
-        MemoryBoard { bytes }
+        Self { bytes }
     }
 
     /// Copies a block out, without a note of it.
@@ -124,7 +124,7 @@ impl<L: Board, R: Board> JoinedBoard<L, R> {
     pub fn new(left: L, right: R) -> Self
         ensures { λ r. ⌜ r ≡ record { left = left; right = right } ⌝ }
     {
-        JoinedBoard { left, right }
+        Self { left, right }
     }
 
     /// Takes the two boards apart again.

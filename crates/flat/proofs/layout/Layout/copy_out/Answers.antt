@@ -6,7 +6,7 @@ use lib.ListN.{length}
 use Rattle.memory.proofs.Overlays.{block-cut}
 use Rattle.flat.specs.Flat.{indexOf}
 use Rattle.flat.proofs.Laying.{start-is, has-start, bytes-is}
-use Rattle.flat.proofs.Layout.copy_out.Needs as need
+use Rattle.flat.proofs.layout.Layout.copy_out.Needs as need
 
 pub returns-in-Some : need.returns-in-Some
 returns-in-Some c =

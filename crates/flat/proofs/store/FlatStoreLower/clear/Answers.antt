@@ -8,7 +8,7 @@ use Rattle.memory.specs.Memory.{overlaid}
 use Rattle.memory.proofs.Overlays.{overlaid-fill}
 use Rattle.flat.specs.Flat.{indexOf, bytesIn, Laid}
 use Rattle.flat.proofs.Laying.{start-is, has-start, extent-within, cleared-laid, cleared-within}
-use Rattle.flat.proofs.FlatStoreLower.clear.Needs as need
+use Rattle.flat.proofs.store.FlatStoreLower.clear.Needs as need
 
 pub returns-in-Some : need.returns-in-Some
 returns-in-Some c =

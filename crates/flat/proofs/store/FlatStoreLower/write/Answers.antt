@@ -8,7 +8,7 @@ use Rattle.memory.specs.Memory.{overlaid}
 use Rattle.memory.proofs.Overlays.{overlaid-put}
 use Rattle.flat.specs.Flat.{indexOf, bytesIn, Laid}
 use Rattle.flat.proofs.Laying.{start-is, has-start, written-laid, written-within}
-use Rattle.flat.proofs.FlatStoreLower.write.Needs as need
+use Rattle.flat.proofs.store.FlatStoreLower.write.Needs as need
 
 pub returns-in-Some : need.returns-in-Some
 returns-in-Some c =

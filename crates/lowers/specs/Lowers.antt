@@ -30,8 +30,8 @@ extentAnswer files width file first n = answered Lower file first (firstGround (
     ∷ (eqb n 0 || ltb 4096 n, Length)
     ∷ []))
 
--- Nothing that is meant has changed.
-pub record Unchanged (files width : ℕ) (bytes : Contents) (filesAfter widthAfter : ℕ) (bytesAfter : Contents) (validAfter : Type 0) : Type 0 where
+-- What is meant afterwards: so many files, of so many blocks, with these bytes.
+pub record Holds (files width : ℕ) (bytes : Contents) (filesAfter widthAfter : ℕ) (bytesAfter : Contents) (validAfter : Type 0) : Type 0 where
   pub same-files : filesAfter ≡ files
   pub same-width : widthAfter ≡ width
   pub same-bytes : bytesAfter ≡ bytes
@@ -42,7 +42,7 @@ pub record CopiesOut (files width : ℕ) (bytes : Contents) (file block : ℕ) (
     (answer : Result (Unit {0}) Fault) (bufferAfter : List ℕ) (filesAfter widthAfter : ℕ) (bytesAfter : Contents) (validAfter : Type 0) : Type 0 where
   pub answers : answer ≡ blockAnswer files width file block (length buffer)
   pub copies : bufferAfter ≡ cond (isOk answer) (bytes file block) buffer
-  pub leaves : Unchanged files width bytes filesAfter widthAfter bytesAfter validAfter
+  pub leaves : Holds files width bytes filesAfter widthAfter bytesAfter validAfter
 
 -- What a call that changes some blocks of a file answers and leaves: the answer that is due and, if granted, those blocks as `new` gives each; nothing changed besides.
 pub record Changes (files width : ℕ) (bytes : Contents) (file : ℕ) (chosen : ℕ → Bool) (new : ℕ → List ℕ)

@@ -5,7 +5,7 @@ ghost use Prim.Native.Nat.{ℕ, _<_, _≤_, min};
 ghost use lib.ListN.{length};
 ghost use denote.Ref.{now};
 ghost use Rattle.blocks.specs.Blocks.{Contents, only, inside, zeroBlock};
-ghost use Rattle.lowers.specs.Lowers.{blockAnswer, extentAnswer, Unchanged, CopiesOut, Changes};
+ghost use Rattle.lowers.specs.Lowers.{blockAnswer, extentAnswer, Holds, CopiesOut, Changes};
 use blocks::BLOCK_BYTES;
 use blocks::EXTENT_BLOCKS;
 use faults::Fault;
@@ -105,7 +105,7 @@ pub fn carry<S: Reading, T: Lower>(
     block: u32,
 ) -> Result<(), Fault>
     ensures target { λ r. ⌜ (S·Reading .valid (now (source .entry)) → T·Reading .valid (now (target .entry)) → Changes (T·Reading .files (now (target .entry))) (T·Reading .width (now (target .entry))) (T·Reading .bytes (now (target .entry))) file (only block) (λ _. S·Reading .bytes (now (source .entry)) file block) (blockAnswer (min (S·Reading .files (now (source .entry))) (T·Reading .files (now (target .entry)))) (min (S·Reading .width (now (source .entry))) (T·Reading .width (now (target .entry)))) file block 4096) r (T·Reading .files (now (target .exit))) (T·Reading .width (now (target .exit))) (T·Reading .bytes (now (target .exit))) (T·Reading .valid (now (target .exit)))) ⌝ }
-    ensures source { λ _. ⌜ (S·Reading .valid (now (source .entry)) → T·Reading .valid (now (target .entry)) → Unchanged (S·Reading .files (now (source .entry))) (S·Reading .width (now (source .entry))) (S·Reading .bytes (now (source .entry))) (S·Reading .files (now (source .exit))) (S·Reading .width (now (source .exit))) (S·Reading .bytes (now (source .exit))) (S·Reading .valid (now (source .exit)))) ⌝ }
+    ensures source { λ _. ⌜ (S·Reading .valid (now (source .entry)) → T·Reading .valid (now (target .entry)) → Holds (S·Reading .files (now (source .entry))) (S·Reading .width (now (source .entry))) (S·Reading .bytes (now (source .entry))) (S·Reading .files (now (source .exit))) (S·Reading .width (now (source .exit))) (S·Reading .bytes (now (source .exit))) (S·Reading .valid (now (source .exit)))) ⌝ }
 {
     let files = source.files().min(target.files());
     let width = source.width().min(target.width());

@@ -1,0 +1,65 @@
+-- What a board's calls answer and leave.
+use Prim.Native.Nat.{ℕ, _+_, _-_, _*_, _/_, min}
+use mathlib.Core.Bool.{Bool, cond, not}
+use mathlib.Core.Path.{_≡_}
+use mathlib.Core.List.{List, [], _∷_}
+use lib.Dec.{eqb, ltb}
+use lib.ListN.{length}
+use Rattle.std.specs.declared.option.Option.{Option}
+use Rattle.std.specs.declared.result.Result.{Result}
+use Rattle.std.specs.Results.{isOk}
+use Rattle.faults.specs.declared.Fault.{Fault}
+use Rattle.faults.specs.declared.Ground.{Ground}
+use Rattle.faults.specs.declared.Ground.the-variants.{Buffer, BoardNumber}
+use Rattle.faults.specs.declared.Layer.the-variants.{Board}
+use Rattle.faults.specs.Grounds.{firstGround}
+use Rattle.memory.specs.Answers.{answered}
+use Rattle.memory.specs.Memory.{blockAt}
+
+-- The answer to a read or write of one block, on a board of so many blocks, with a buffer of so many bytes.
+abbrev pub boardAnswer : ℕ → ℕ → ℕ → Result (Unit {0}) Fault
+boardAnswer size number buffer = answered Board 0 number (firstGround (
+    (not (eqb buffer 4096), Buffer)
+    ∷ (not (ltb number size), BoardNumber)
+    ∷ []))
+
+-- The same blocks, but that one has other bytes.
+abbrev pub replaced : (ℕ → List ℕ) → ℕ → List ℕ → ℕ → List ℕ
+replaced block number new i = cond (eqb i number) new (block i)
+
+-- What a read answers and leaves, on a board of `size` blocks that hold `block`: the block's bytes in the buffer if granted, and nothing changed besides.
+pub record ReadsBlock (size : ℕ) (block : ℕ → List ℕ) (number : ℕ) (buffer : List ℕ)
+    (answer : Result (Unit {0}) Fault) (bufferAfter : List ℕ) (sizeAfter : ℕ) (blockAfter : ℕ → List ℕ) (validAfter : Type 0) : Type 0 where
+  pub answers : answer ≡ boardAnswer size number (length buffer)
+  pub copies : bufferAfter ≡ cond (isOk answer) (block number) buffer
+  pub keeps : blockAfter ≡ block
+  pub same-size : sizeAfter ≡ size
+  pub stays-valid : validAfter
+
+-- What a write answers and leaves: the one block replaced if granted, and nothing changed besides.
+pub record ReplacesBlock (size : ℕ) (block : ℕ → List ℕ) (number : ℕ) (buffer : List ℕ)
+    (answer : Result (Unit {0}) Fault) (sizeAfter : ℕ) (blockAfter : ℕ → List ℕ) (validAfter : Type 0) : Type 0 where
+  pub answers : answer ≡ boardAnswer size number (length buffer)
+  pub replaces : blockAfter ≡ cond (isOk answer) (replaced block number buffer) block
+  pub same-size : sizeAfter ≡ size
+  pub stays-valid : validAfter
+
+-- ---- a board in memory
+
+-- the whole blocks that fit, at most 4,096
+abbrev pub sizeIn : List ℕ → ℕ
+sizeIn memory = min (length memory / 4096) 4096
+
+abbrev pub blockIn : List ℕ → ℕ → List ℕ
+blockIn memory i = cond (ltb i (sizeIn memory)) (blockAt memory i) []
+
+-- ---- two boards end to end
+
+-- their blocks together, cut at 4,096
+abbrev pub joinedSize : ℕ → ℕ → ℕ
+joinedSize left right = min (left + right) 4096
+
+-- those of the left board, then those of the right
+abbrev pub joinedBlock : ℕ → (ℕ → List ℕ) → ℕ → (ℕ → List ℕ) → ℕ → List ℕ
+joinedBlock left lefts right rights i =
+    cond (ltb i (joinedSize left right)) (cond (ltb i left) (lefts i) (rights (i - left))) []

@@ -1,0 +1,1 @@
+//! Blocks in memory: the part that each takes, and what a change of one leaves.

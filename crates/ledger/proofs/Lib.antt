@@ -1,0 +1,9 @@
+pub mod Search
+pub mod Pool
+pub mod Steps
+pub mod Admits
+pub mod Calls
+pub mod Twins
+pub mod Runs
+pub mod Refusals
+pub mod Board

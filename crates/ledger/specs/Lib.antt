@@ -1,0 +1,8 @@
+pub mod Answers
+pub mod Free
+pub mod Store
+pub mod Sound
+pub mod Order
+pub mod Book
+pub mod Promise
+pub mod Worked

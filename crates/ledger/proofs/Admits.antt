@@ -13,9 +13,9 @@ use Rattle.std.specs.declared.result.Result.the-variants.{Ok, Err}
 use Rattle.blocks.specs.Blocks.{only, inside, every, changed}
 use Rattle.faults.specs.declared.Ground.{Ground}
 use Rattle.faults.specs.declared.Ground.the-variants.{File}
-use Rattle.ledger.specs.declared.StoreFault.{StoreFault}
-use Rattle.ledger.specs.declared.Written.{Written}
-use Rattle.ledger.specs.declared.Written.the-variants.{Lower, Board}
+use Rattle.calls.specs.declared.StoreFault.{StoreFault}
+use Rattle.calls.specs.declared.Written.{Written}
+use Rattle.calls.specs.declared.Written.the-variants.{Lower, Board}
 use Rattle.ledger.specs.Store.{Shape, State, own, mapFull, unless, overfull, badWrite, takes, writes, freeFor, writeAnswer, badRead, readAnswer, source, badClear, clears, clearAnswer, placed, fileAnswer}
 use Rattle.ledger.proofs.Pool.{none-some}
 

@@ -17,11 +17,11 @@ use Rattle.std.specs.declared.result.Result.the-variants.{Ok, Err}
 use Rattle.blocks.specs.Blocks.{Placement, Contents, only, inside, changed, one, sum, count, tally}
 use Rattle.blocks.proofs.Sums.{sum-change, sum-zero, tally-none, tally-change}
 use Rattle.faults.specs.declared.Ground.the-variants.{NoFreeBlock}
-use Rattle.ledger.specs.declared.Granted.the-variants.{Wrote, GaveBack}
-use Rattle.ledger.specs.declared.StoreFault.{StoreFault}
-use Rattle.ledger.specs.declared.Written.{Written}
-use Rattle.ledger.specs.declared.Written.the-variants.{Board}
-use Rattle.ledger.specs.Answers.{Answer}
+use Rattle.calls.specs.declared.Granted.the-variants.{Wrote, GaveBack}
+use Rattle.calls.specs.declared.StoreFault.{StoreFault}
+use Rattle.calls.specs.declared.Written.{Written}
+use Rattle.calls.specs.declared.Written.the-variants.{Board}
+use Rattle.calls.specs.Answers.{Answer}
 use Rattle.ledger.specs.Free.{firstFree, orElse}
 use Rattle.ledger.specs.Sound.{Sound, New}
 use Rattle.ledger.specs.Store.{Shape, State, Ask, Told, own, badWrite, freeFor, writeAnswer, wrote, ifGranted, freed, placed, clearAnswer, cleared, asAny, outcome}

@@ -19,13 +19,13 @@ use Rattle.blocks.proofs.Sums.{count-full, full-count, below-change}
 use Rattle.blocks.proofs.Changes.{inside-yes, changed-here, changed-beside, changed-elsewhere}
 use Rattle.faults.specs.declared.Ground.{Ground}
 use Rattle.faults.specs.declared.Ground.the-variants.{File}
-use Rattle.ledger.specs.declared.Call.{Call}
-use Rattle.ledger.specs.declared.Call.the-variants.{Write, Read, Clear, Remove, Demote}
-use Rattle.ledger.specs.declared.Granted.the-variants.{Wrote, Showed, GaveBack}
-use Rattle.ledger.specs.declared.StoreFault.{StoreFault}
-use Rattle.ledger.specs.declared.Written.{Written}
-use Rattle.ledger.specs.declared.Written.the-variants.{Lower, Board}
-use Rattle.ledger.specs.Answers.{Answer, takenIn, givenBackIn, refusedWith}
+use Rattle.calls.specs.declared.Call.{Call}
+use Rattle.calls.specs.declared.Call.the-variants.{Write, Read, Clear, Remove, Demote}
+use Rattle.calls.specs.declared.Granted.the-variants.{Wrote, Showed, GaveBack}
+use Rattle.calls.specs.declared.StoreFault.{StoreFault}
+use Rattle.calls.specs.declared.Written.{Written}
+use Rattle.calls.specs.declared.Written.the-variants.{Lower, Board}
+use Rattle.calls.specs.Answers.{Answer, takenIn, givenBackIn, refusedWith}
 use Rattle.ledger.specs.Book.{Book, fed, placesIn}
 use Rattle.ledger.specs.Free.{goal, freeFrom}
 use Rattle.ledger.specs.Promise.{ShowsBook, FullExactly}

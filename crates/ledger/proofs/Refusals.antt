@@ -16,14 +16,14 @@ use Rattle.blocks.specs.Blocks.{Placement, only, inside, every, changed}
 use Rattle.faults.specs.Grounds.{firstGround}
 use Rattle.faults.specs.declared.Ground.{Ground}
 use Rattle.faults.specs.declared.Ground.the-variants.{Mark, File, Block, Length, Buffer, NoFreeBlock, TooManyKeys}
-use Rattle.ledger.specs.declared.Call.{Call}
-use Rattle.ledger.specs.declared.Call.the-variants.{Write, Read, Clear, Remove, Demote}
-use Rattle.ledger.specs.declared.Granted.{Granted}
-use Rattle.ledger.specs.declared.Granted.the-variants.{Wrote, Showed, GaveBack}
-use Rattle.ledger.specs.declared.Source.{Source}
-use Rattle.ledger.specs.declared.StoreFault.{StoreFault}
-use Rattle.ledger.specs.declared.Written.the-variants.{Lower, Board}
-use Rattle.ledger.specs.Answers.{Answer}
+use Rattle.calls.specs.declared.Call.{Call}
+use Rattle.calls.specs.declared.Call.the-variants.{Write, Read, Clear, Remove, Demote}
+use Rattle.calls.specs.declared.Granted.{Granted}
+use Rattle.calls.specs.declared.Granted.the-variants.{Wrote, Showed, GaveBack}
+use Rattle.calls.specs.declared.Source.{Source}
+use Rattle.calls.specs.declared.StoreFault.{StoreFault}
+use Rattle.calls.specs.declared.Written.the-variants.{Lower, Board}
+use Rattle.calls.specs.Answers.{Answer}
 use Rattle.ledger.specs.Order.{takesBlock, overfullWith, groundsOf, refusalOn, refusalIn, onGround, RefusedInOrder, RefusedLeaves}
 use Rattle.ledger.specs.Store.{Shape, State, Ask, shown, own, mapFull, unless, overfull, takes, writes, freeFor, writeAnswer, readAnswer, source, placed, clears, clearAnswer, fileAnswer, ifGranted, asAny, answerTo, bufferAfter, stateAfter, told, next}
 

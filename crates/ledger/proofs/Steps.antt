@@ -13,7 +13,7 @@ use Rattle.std.specs.declared.option.Option.the-variants.{Some, None}
 use Rattle.blocks.specs.Blocks.{Placement, Contents, only, changed, one, sum, count, tallyBelow}
 use Rattle.blocks.proofs.Sums.{sum-same, sum-add, sum-change, below-change, below-none}
 use Rattle.blocks.proofs.Changes.{changed-here, changed-beside, changed-elsewhere, only-here}
-use Rattle.ledger.specs.declared.Written.the-variants.{Lower, Board}
+use Rattle.calls.specs.declared.Written.the-variants.{Lower, Board}
 use Rattle.ledger.specs.Sound.{Sound, New}
 use Rattle.ledger.specs.Store.{Shape, State, put, placed, freed, wrote, vacated}
 use Rattle.ledger.proofs.Pool.{put-here, put-other, none-some, some-same, freed-chosen, freed-taken, freed-other, freed-count}

@@ -15,13 +15,13 @@ use Rattle.std.specs.declared.result.Result.{Result}
 use Rattle.std.specs.declared.result.Result.the-variants.{Ok, Err}
 use Rattle.blocks.specs.Blocks.{Placement, Contents, zeroBlock, only, inside, every, changed}
 use Rattle.faults.specs.declared.Ground.{Ground}
-use Rattle.ledger.specs.declared.Call.{Call}
-use Rattle.ledger.specs.declared.Call.the-variants.{Write, Read, Clear, Remove, Demote}
-use Rattle.ledger.specs.declared.Granted.the-variants.{Wrote, Showed, GaveBack}
-use Rattle.ledger.specs.declared.Source.{Source}
-use Rattle.ledger.specs.declared.StoreFault.{StoreFault}
-use Rattle.ledger.specs.declared.Written.{Written}
-use Rattle.ledger.specs.declared.Written.the-variants.{Lower, Board}
+use Rattle.calls.specs.declared.Call.{Call}
+use Rattle.calls.specs.declared.Call.the-variants.{Write, Read, Clear, Remove, Demote}
+use Rattle.calls.specs.declared.Granted.the-variants.{Wrote, Showed, GaveBack}
+use Rattle.calls.specs.declared.Source.{Source}
+use Rattle.calls.specs.declared.StoreFault.{StoreFault}
+use Rattle.calls.specs.declared.Written.{Written}
+use Rattle.calls.specs.declared.Written.the-variants.{Lower, Board}
 use Rattle.ledger.specs.Free.{goal, freeFrom}
 use Rattle.ledger.specs.Sound.{Sound}
 use Rattle.ledger.specs.Store.{Shape, State, Ask, Told, bytesAt, shown, put, unless, ifGranted, badWrite, writes, freeFor, writeAnswer, wrote, badRead, source, readAnswer, readBuffer, freed, vacated, clearAnswer, cleared, fileAnswer, removed, demoted, asAny, answerTo, bufferAfter, stateAfter, told, next}

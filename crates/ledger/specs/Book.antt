@@ -2,10 +2,10 @@
 use Prim.Native.Nat.{ℕ, _+_}
 use mathlib.Core.List.{List, [], _∷_}
 use Rattle.blocks.specs.Blocks.{Placement, Contents, zeroBlock, only, inside, every, changed, tallyBelow}
-use Rattle.ledger.specs.Answers.{Answer, boardIn, takenIn, givenBackIn}
+use Rattle.calls.specs.Answers.{Answer, boardIn, takenIn, givenBackIn}
 use Rattle.ledger.specs.Store.{Shape, Ask, Told, ifGranted}
-use Rattle.ledger.specs.declared.Call.{Call}
-use Rattle.ledger.specs.declared.Call.the-variants.{Write, Read, Clear, Remove, Demote}
+use Rattle.calls.specs.declared.Call.{Call}
+use Rattle.calls.specs.declared.Call.the-variants.{Write, Read, Clear, Remove, Demote}
 use Rattle.std.specs.declared.option.Option.{Option}
 use Rattle.std.specs.declared.option.Option.the-variants.{Some, None}
 

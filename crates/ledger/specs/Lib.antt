@@ -1,4 +1,3 @@
-pub mod Answers
 pub mod Free
 pub mod Store
 pub mod Sound

@@ -10,12 +10,12 @@ use Rattle.faults.specs.Grounds.{groundNumber, firstGround}
 use Rattle.faults.specs.declared.Ground.{Ground}
 use Rattle.faults.specs.declared.Ground.the-variants.{Mark, File, Block, Length, Buffer, NoFreeBlock, TooManyKeys}
 use Rattle.faults.specs.declared.Layer.the-variants.{Map, Store}
-use Rattle.ledger.specs.Answers.{Answer}
+use Rattle.calls.specs.Answers.{Answer}
 use Rattle.ledger.specs.Store.{Shape, State, Ask, overfull, freeFor, told, next}
-use Rattle.ledger.specs.declared.Call.{Call}
-use Rattle.ledger.specs.declared.Call.the-variants.{Write, Read, Clear, Remove, Demote}
-use Rattle.ledger.specs.declared.StoreFault.{StoreFault}
-use Rattle.ledger.specs.declared.StoreFault.the-variants.{Own, FromMap}
+use Rattle.calls.specs.declared.Call.{Call}
+use Rattle.calls.specs.declared.Call.the-variants.{Write, Read, Clear, Remove, Demote}
+use Rattle.calls.specs.declared.StoreFault.{StoreFault}
+use Rattle.calls.specs.declared.StoreFault.the-variants.{Own, FromMap}
 use Rattle.std.specs.Options.{isSome}
 use Rattle.std.specs.Results.{isOk}
 use Rattle.std.specs.declared.option.Option.{Option}

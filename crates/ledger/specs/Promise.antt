@@ -5,11 +5,11 @@ use mathlib.Core.Bool.{true}
 use mathlib.Core.List.{List, [], _∷_}
 use lib.ListN.{length}
 use Rattle.blocks.specs.Blocks.{Placement, Contents}
-use Rattle.ledger.specs.Answers.{refusedWith}
+use Rattle.calls.specs.Answers.{refusedWith}
 use Rattle.ledger.specs.Book.{Book, newBook, fed, bookAfter, placesIn, blocksTaken, blocksGivenBack}
 use Rattle.ledger.specs.Sound.{New}
 use Rattle.ledger.specs.Store.{Shape, State, Ask, Told, outcome, final}
-use Rattle.ledger.specs.declared.Call.the-variants.{Write, Read}
+use Rattle.calls.specs.declared.Call.the-variants.{Write, Read}
 use Rattle.std.specs.Results.{isOk}
 use Rattle.std.specs.declared.option.Option.the-variants.{Some, None}
 

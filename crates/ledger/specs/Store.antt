@@ -9,18 +9,18 @@ use Rattle.faults.specs.Grounds.{firstGround}
 use Rattle.faults.specs.declared.Ground.{Ground}
 use Rattle.faults.specs.declared.Ground.the-variants.{Mark, File, Block, Length, Buffer, NoFreeBlock, TooManyKeys}
 use Rattle.faults.specs.declared.Layer.the-variants.{Map, Store}
-use Rattle.ledger.specs.Answers.{Answer}
+use Rattle.calls.specs.Answers.{Answer}
 use Rattle.ledger.specs.Free.{goal, freeFrom}
-use Rattle.ledger.specs.declared.Call.{Call}
-use Rattle.ledger.specs.declared.Call.the-variants.{Write, Read, Clear, Remove, Demote}
-use Rattle.ledger.specs.declared.Granted.{Granted}
-use Rattle.ledger.specs.declared.Granted.the-variants.{Wrote, Showed, GaveBack}
-use Rattle.ledger.specs.declared.Source.{Source}
-use Rattle.ledger.specs.declared.Source.the-variants.{Lower as LowerBytes, Board as BoardBytes}
-use Rattle.ledger.specs.declared.StoreFault.{StoreFault}
-use Rattle.ledger.specs.declared.StoreFault.the-variants.{Own, FromMap}
-use Rattle.ledger.specs.declared.Written.{Written}
-use Rattle.ledger.specs.declared.Written.the-variants.{Lower, Board}
+use Rattle.calls.specs.declared.Call.{Call}
+use Rattle.calls.specs.declared.Call.the-variants.{Write, Read, Clear, Remove, Demote}
+use Rattle.calls.specs.declared.Granted.{Granted}
+use Rattle.calls.specs.declared.Granted.the-variants.{Wrote, Showed, GaveBack}
+use Rattle.calls.specs.declared.Source.{Source}
+use Rattle.calls.specs.declared.Source.the-variants.{Lower as LowerBytes, Board as BoardBytes}
+use Rattle.calls.specs.declared.StoreFault.{StoreFault}
+use Rattle.calls.specs.declared.StoreFault.the-variants.{Own, FromMap}
+use Rattle.calls.specs.declared.Written.{Written}
+use Rattle.calls.specs.declared.Written.the-variants.{Lower, Board}
 use Rattle.std.specs.Options.{isSome}
 use Rattle.std.specs.declared.option.Option.{Option}
 use Rattle.std.specs.declared.option.Option.the-variants.{Some, None}

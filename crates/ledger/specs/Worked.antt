@@ -7,13 +7,13 @@ use lib.ListN.{length}
 use Rattle.blocks.specs.Blocks.{Placement, tally}
 use Rattle.faults.specs.declared.Ground.the-variants.{NoFreeBlock}
 use Rattle.faults.specs.declared.Layer.the-variants.{Store}
-use Rattle.ledger.specs.Answers.{Answer}
+use Rattle.calls.specs.Answers.{Answer}
 use Rattle.ledger.specs.Sound.{New}
 use Rattle.ledger.specs.Store.{Shape, State, Ask, Told, outcome}
-use Rattle.ledger.specs.declared.Call.the-variants.{Write, Clear}
-use Rattle.ledger.specs.declared.Granted.the-variants.{Wrote, GaveBack}
-use Rattle.ledger.specs.declared.StoreFault.the-variants.{Own}
-use Rattle.ledger.specs.declared.Written.the-variants.{Board}
+use Rattle.calls.specs.declared.Call.the-variants.{Write, Clear}
+use Rattle.calls.specs.declared.Granted.the-variants.{Wrote, GaveBack}
+use Rattle.calls.specs.declared.StoreFault.the-variants.{Own}
+use Rattle.calls.specs.declared.Written.the-variants.{Board}
 use Rattle.std.specs.declared.result.Result.the-variants.{Ok, Err}
 
 -- Under any key rule, with any number of files and of blocks to a file.

@@ -4,14 +4,14 @@ use mathlib.Core.Bool.{Bool, true, false}
 use Rattle.blocks.specs.Blocks.{one}
 use Rattle.faults.specs.Grounds.{groundNumber}
 use Rattle.faults.specs.declared.Fault.{Fault}
-use Rattle.ledger.specs.declared.Granted.{Granted}
-use Rattle.ledger.specs.declared.Granted.the-variants.{Wrote, Showed, GaveBack}
-use Rattle.ledger.specs.declared.Source.{Source}
-use Rattle.ledger.specs.declared.Source.the-variants.{Lower as LowerBytes, Board as BoardBytes}
-use Rattle.ledger.specs.declared.StoreFault.{StoreFault}
-use Rattle.ledger.specs.declared.StoreFault.the-variants.{Own, FromMap}
-use Rattle.ledger.specs.declared.Written.{Written}
-use Rattle.ledger.specs.declared.Written.the-variants.{Lower, Board}
+use Rattle.calls.specs.declared.Granted.{Granted}
+use Rattle.calls.specs.declared.Granted.the-variants.{Wrote, Showed, GaveBack}
+use Rattle.calls.specs.declared.Source.{Source}
+use Rattle.calls.specs.declared.Source.the-variants.{Lower as LowerBytes, Board as BoardBytes}
+use Rattle.calls.specs.declared.StoreFault.{StoreFault}
+use Rattle.calls.specs.declared.StoreFault.the-variants.{Own, FromMap}
+use Rattle.calls.specs.declared.Written.{Written}
+use Rattle.calls.specs.declared.Written.the-variants.{Lower, Board}
 use Rattle.std.specs.declared.option.Option.{Option}
 use Rattle.std.specs.declared.option.Option.the-variants.{Some, None}
 use Rattle.std.specs.declared.result.Result.{Result}

@@ -3,28 +3,26 @@ use Prim.Native.Nat.{ℕ, _+_, _<_, _≤_}
 use mathlib.Core.Path.{_≡_, refl, sym, ap, ap₂, fun-ext, _∙_}
 use mathlib.Core.Bool.{Bool, true, false, cond, _&&_}
 use mathlib.Core.List.{List, [], _∷_, map}
-use mathlib.Core.Logic.{_≢_}
 use native.Mathlib.Omega.{arith}
-use lib.Dec.{eqb, ltb, leb, lit<}
+use lib.Dec.{lit<}
 use lib.ListN.{length}
-use Rattle.std.proofs.shelf.Tests.{and-parts, and-left, leb-true, ltb-true, eqb-true, eq-eqb, ne-eqb}
+use Rattle.std.proofs.shelf.Tests.{and-left, eqb-true, eq-eqb, ne-eqb}
 use Rattle.std.proofs.shelf.Ways.{tells}
 use Rattle.std.specs.Options.{isSome}
 use Rattle.std.specs.declared.option.Option.{Option}
 use Rattle.std.specs.declared.option.Option.the-variants.{Some, None}
 use Rattle.std.specs.declared.result.Result.{Result}
 use Rattle.std.specs.declared.result.Result.the-variants.{Ok, Err}
-use Rattle.blocks.specs.Blocks.{Placement, Contents, only, inside, changed, one, sum, count, tally}
+use Rattle.blocks.specs.Blocks.{Placement, Contents, only, inside, changed, one, tally}
 use Rattle.blocks.proofs.Sums.{sum-change, sum-zero, tally-none, tally-change}
 use Rattle.faults.specs.declared.Ground.the-variants.{NoFreeBlock}
 use Rattle.calls.specs.declared.Granted.the-variants.{Wrote, GaveBack}
 use Rattle.calls.specs.declared.StoreFault.{StoreFault}
 use Rattle.calls.specs.declared.Written.{Written}
 use Rattle.calls.specs.declared.Written.the-variants.{Board}
-use Rattle.calls.specs.Answers.{Answer}
 use Rattle.ledger.specs.Free.{firstFree, orElse}
-use Rattle.ledger.specs.Sound.{Sound, New}
-use Rattle.ledger.specs.Store.{Shape, State, Ask, Told, own, badWrite, freeFor, writeAnswer, wrote, ifGranted, freed, placed, clearAnswer, cleared, asAny, outcome}
+use Rattle.ledger.specs.Sound.{New}
+use Rattle.ledger.specs.Store.{Shape, State, Ask, Told, own, freeFor, writeAnswer, wrote, ifGranted, freed, placed, clearAnswer, cleared, asAny}
 use Rattle.ledger.specs.Worked.{fourBlocks, answersTo, keep, clearOne, took, workedCalls, workedAnswers, WorkedBoard}
 use Rattle.ledger.proofs.Admits.{admits-write, admits-clear, write-new, write-takes, clear-granted}
 use Rattle.ledger.proofs.Pool.{some-same, freed-chosen, freed-other}

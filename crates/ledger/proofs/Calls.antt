@@ -1,20 +1,19 @@
 -- What each call does to the store, to the book and to the count of places.
-use Prim.Native.Nat.{ℕ, zero, suc, _+_, _<_, _≤_}
-use mathlib.Core.Path.{_≡_, refl, sym, ap, ap₂, subst, fun-ext, _∙_}
-use mathlib.Core.Bool.{Bool, true, false, cond, _&&_}
+use Prim.Native.Nat.{ℕ, _+_, _<_}
+use mathlib.Core.Path.{_≡_, refl, sym, ap, ap₂, subst, _∙_}
+use mathlib.Core.Bool.{Bool, true, false, cond, not, _&&_}
 use mathlib.Core.List.{List}
-use mathlib.Core.Logic.{_⊎_, inl, inr, _≢_}
+use mathlib.Core.Logic.{inl, inr}
 use native.Mathlib.Omega.{arith}
-use lib.Dec.{eqb, ltb, leb}
+use lib.Dec.{eqb, ltb}
 use lib.ListN.{length}
-use Rattle.std.proofs.shelf.Tests.{cases-eq, cases-lt, cond-true, cond-false, eq-eqb, ne-eqb, leb-false, both-ways}
+use Rattle.std.proofs.shelf.Tests.{cases-eq, cases-lt, both-ways}
 use Rattle.std.specs.Options.{isSome}
 use Rattle.std.specs.Results.{isOk}
 use Rattle.std.specs.declared.option.Option.{Option}
 use Rattle.std.specs.declared.option.Option.the-variants.{Some, None}
-use Rattle.std.specs.declared.result.Result.{Result}
 use Rattle.std.specs.declared.result.Result.the-variants.{Ok, Err}
-use Rattle.blocks.specs.Blocks.{Placement, Contents, zeroBlock, only, inside, every, changed, one, tallyBelow}
+use Rattle.blocks.specs.Blocks.{Contents, zeroBlock, only, inside, every, changed, one, tallyBelow}
 use Rattle.blocks.proofs.Sums.{count-full, full-count, below-change}
 use Rattle.blocks.proofs.Changes.{inside-yes, changed-here, changed-beside, changed-elsewhere}
 use Rattle.faults.specs.declared.Ground.{Ground}
@@ -23,18 +22,17 @@ use Rattle.calls.specs.declared.Call.{Call}
 use Rattle.calls.specs.declared.Call.the-variants.{Write, Read, Clear, Remove, Demote}
 use Rattle.calls.specs.declared.Granted.the-variants.{Wrote, Showed, GaveBack}
 use Rattle.calls.specs.declared.StoreFault.{StoreFault}
-use Rattle.calls.specs.declared.Written.{Written}
 use Rattle.calls.specs.declared.Written.the-variants.{Lower, Board}
 use Rattle.calls.specs.Answers.{Answer, takenIn, givenBackIn, refusedWith}
-use Rattle.ledger.specs.Book.{Book, fed, placesIn}
-use Rattle.ledger.specs.Free.{goal, freeFrom}
+use Rattle.ledger.specs.Book.{Book, fed}
+use Rattle.ledger.specs.Free.{goal}
 use Rattle.ledger.specs.Promise.{ShowsBook, FullExactly}
 use Rattle.ledger.specs.Sound.{Sound}
-use Rattle.ledger.specs.Store.{Shape, State, Ask, Told, bytesAt, shown, put, mapFull, unless, overfull, ifGranted, badWrite, takes, writes, freeFor, writeAnswer, wrote, afterWrite, badRead, source, readAnswer, readBuffer, placed, freed, vacated, badClear, clears, clearAnswer, cleared, fileAnswer, removed, demoted, asAny, answerTo, bufferAfter, stateAfter, told, next}
-use Rattle.ledger.proofs.Admits.{admitted-write, admits-write, admitted-clear, write-takes}
+use Rattle.ledger.specs.Store.{Shape, State, Ask, bytesAt, shown, put, mapFull, unless, overfull, ifGranted, badWrite, takes, writes, freeFor, wrote, badRead, source, placed, vacated, badClear, cleared, fileAnswer, asAny, answerTo, bufferAfter, stateAfter, told, next}
+use Rattle.ledger.proofs.Admits.{is-below, admitted-write, admits-write, admitted-clear, write-takes}
 use Rattle.ledger.proofs.Pool.{put-here, put-other, none-some, some-same}
 use Rattle.ledger.proofs.Search.{found-free, found-none}
-use Rattle.ledger.proofs.Steps.{changed-cases, only-cases, changed-same, vacated-count, beyond, unowned, sound-take, sound-vacate}
+use Rattle.ledger.proofs.Steps.{only-cases, changed-same, vacated-count, beyond, unowned, sound-take, sound-vacate}
 
 -- The book that tells what a store holds.
 abbrev pub bookOf : State → Book
@@ -197,14 +195,14 @@ module _ (sh : Shape) (s : State) (ok : Sound sh s) where
   keeps-file : (c : Call) (sent : List ℕ) (file : ℕ) (low : Contents)
       → fed (sh .width) (bookOf s) c sent (Ok (GaveBack (placed (s .place file) every (sh .width)))) ≡ bookOf (vacated sh s file every low)
       → Keeps sh s c sent (asAny GaveBack (fileAnswer sh s file)) (ifGranted (fileAnswer sh s file) s (λ _. vacated sh s file every low))
-  keeps-file c sent file low e = go (leb (sh .files) file) refl
+  keeps-file c sent file low e = go (not (ltb file (sh .files))) refl
     where
-      go : (v : Bool) → leb (sh .files) file ≡ v
+      go : (v : Bool) → not (ltb file (sh .files)) ≡ v
           → Keeps sh s c sent (asAny GaveBack (unless (cond v (Some File) None) file 0 (Ok (placed (s .place file) every (sh .width)))))
           (ifGranted (unless (cond v (Some File) None) file 0 (Ok (placed (s .place file) every (sh .width)))) s (λ _. vacated sh s file every low))
       go true h = refused c sent _
       go false h =
-          let lf = leb-false (sh .files) file h in
+          let lf = is-below file (sh .files) h in
           let w = vacated-count (sh .files) (sh .width) (s .place) file every lf in
           record { sound = sound-vacate sh s ok file every low lf; book = e; balance = omega arith }
 
@@ -255,12 +253,12 @@ module _ (sh : Shape) (s : State) (ok : Sound sh s) where
   pub shows : (q : Ask) → ShowsBook (bookOf s) q (told sh s q)
   shows q file block e =
       subst (λ (c : Call). isOk (answerTo sh s c (q .sent)) ≡ true → bufferAfter sh s c (q .sent) ≡ shown s file block) (sym e)
-      (go (badRead sh file block (length (q .sent))))
+      (go _ (badRead sh file block (length (q .sent))))
     where
-      go : (o : Option Ground) → isOk (asAny Showed (unless o file block (Ok (source (s .place file block))))) ≡ true
-          → ifGranted (unless o file block (Ok (source (s .place file block)))) (q .sent) (λ _. shown s file block) ≡ shown s file block
-      go (Some g) h = absurd (both-ways false refl h)
-      go None h = refl
+      go : (old : List ℕ) (o : Option Ground) → isOk (asAny Showed (unless o file block (Ok (source (s .place file block))))) ≡ true
+          → ifGranted (unless o file block (Ok (source (s .place file block)))) old (λ _. shown s file block) ≡ shown s file block
+      go old (Some g) h = absurd (both-ways false refl h)
+      go old None h = refl
 
   pub full : (q : Ask) → FullExactly sh (bookOf s) q (told sh s q)
   full q file block e lf lb len un =

@@ -1,7 +1,7 @@
 -- What the pool holds once the blocks of a row have handed their board blocks back.
-use Prim.Native.Nat.{ℕ, zero, suc, _+_, _<_, _≤_}
+use Prim.Native.Nat.{ℕ, zero, suc, _+_, _-_, _<_, _≤_}
 use mathlib.Core.Path.{_≡_, refl, sym, ap, ap₂, _∙_}
-use mathlib.Core.Bool.{Bool, true, false, cond, _&&_}
+use mathlib.Core.Bool.{Bool, true, false, _&&_}
 use mathlib.Core.Logic.{_⊎_, inl, inr, _≢_}
 use native.Mathlib.Omega.{arith}
 use native.Mathlib.Numerals.{add-one}
@@ -89,3 +89,48 @@ module _ (t : ℕ → Bool) (row : ℕ → Option ℕ) (chosen : ℕ → Bool) w
           let x = ap one was in
           let y = ap one (put-here u p false p refl) in
           omega arith
+
+-- ---- going up a row, from one block with a place to the next
+
+idle : (v : Bool) (o : Option ℕ) (u : ℕ → Bool) → (v ≡ true → o ≡ None) → (handBack v o u ≡ u) × (one (v && isSome o) ≡ 0)
+idle false o u e = (refl, refl)
+idle true None u e = (refl, refl)
+idle true (Some p) u e = none-some (e refl) refl
+
+module _ (t : ℕ → Bool) (row : ℕ → Option ℕ) (chosen : ℕ → Bool) where
+  pub freed-next : (b p : ℕ) → chosen b ≡ true → row b ≡ Some p
+      → (freed t row chosen (b + 1) ≡ put (freed t row chosen b) p false) × (placed row chosen (b + 1) ≡ placed row chosen b + 1)
+  freed-next b p e r = (
+    ap (freed t row chosen) (add-one b) ∙ ap₂ (λ (v : Bool) (o : Option ℕ). handBack v o (freed t row chosen b)) e r,
+    (let more = ap₂ (λ (v : Bool) (o : Option ℕ). one (v && isSome o)) e r in
+        let step = ap (placed row chosen) (add-one b) in
+        omega arith),
+  )
+
+  skip-by : (b k : ℕ) → ((c : ℕ) → b ≤ c → c < b + k → chosen c ≡ true → row c ≡ None)
+      → (freed t row chosen (b + k) ≡ freed t row chosen b) × (placed row chosen (b + k) ≡ placed row chosen b)
+  skip-by b zero e = let z : b + 0 ≡ b = omega arith in (ap (freed t row chosen) z, ap (placed row chosen) z)
+  skip-by b (suc k) e =
+      let z : b + suc k ≡ suc (b + k) = omega arith in
+      let h = skip-by b k (λ c l m. e c l (omega arith)) in
+      let i = idle (chosen (b + k)) (row (b + k)) (freed t row chosen (b + k)) (e (b + k) (omega arith) (omega arith)) in
+      let last : placed row chosen (suc (b + k)) ≡ placed row chosen b = omega (arith, h .1, i .1) in
+      (ap (freed t row chosen) z ∙ (i .0 ∙ h .0), ap (placed row chosen) z ∙ last)
+
+  -- where no chosen block has a place
+  pub freed-skip : (b c : ℕ) → b ≤ c → ((d : ℕ) → b ≤ d → d < c → chosen d ≡ true → row d ≡ None)
+      → (freed t row chosen c ≡ freed t row chosen b) × (placed row chosen c ≡ placed row chosen b)
+  freed-skip b c l e =
+      let z : b + (c - b) ≡ c = omega arith in
+      let h = skip-by b (c - b) (λ d m n. e d m (omega arith)) in
+      (ap (freed t row chosen) (sym z) ∙ h .0, ap (placed row chosen) (sym z) ∙ h .1)
+
+  -- only which blocks are chosen below n counts
+  pub freed-same : (also : ℕ → Bool) (n : ℕ) → ((b : ℕ) → b < n → chosen b ≡ also b)
+      → (freed t row chosen n ≡ freed t row also n) × (placed row chosen n ≡ placed row also n)
+  freed-same also zero e = (refl, refl)
+  freed-same also (suc n) e =
+      let h = freed-same also n (λ b l. e b (omega arith)) in
+      let v = e n (omega arith) in
+      let last = ap (λ (w : Bool). one (w && isSome (row n))) v in
+      (ap₂ (λ (w : Bool) (u : ℕ → Bool). handBack w (row n) u) v (h .0), omega (arith, h .1))

@@ -1,9 +1,9 @@
 -- Refusals come in the order of the grounds, and change nothing.
 use Prim.Native.Nat.{ℕ, _+_}
-use mathlib.Core.Path.{_≡_, refl, sym, ap, _∙_}
+use mathlib.Core.Path.{_≡_, refl, ap}
 use mathlib.Core.Bool.{Bool, true, false, cond, not, _&&_, _||_}
-use mathlib.Core.List.{List, [], _∷_}
-use lib.Dec.{eqb, ltb, leb}
+use mathlib.Core.List.{List}
+use lib.Dec.{eqb, ltb}
 use lib.ListN.{length}
 use Rattle.std.proofs.shelf.Tests.{both-ways}
 use Rattle.std.specs.Options.{isSome}
@@ -12,7 +12,7 @@ use Rattle.std.specs.declared.option.Option.{Option}
 use Rattle.std.specs.declared.option.Option.the-variants.{Some, None}
 use Rattle.std.specs.declared.result.Result.{Result}
 use Rattle.std.specs.declared.result.Result.the-variants.{Ok, Err}
-use Rattle.blocks.specs.Blocks.{Placement, only, inside, every, changed}
+use Rattle.blocks.specs.Blocks.{only, inside, every, changed}
 use Rattle.faults.specs.Grounds.{firstGround}
 use Rattle.faults.specs.declared.Ground.{Ground}
 use Rattle.faults.specs.declared.Ground.the-variants.{Mark, File, Block, Length, Buffer, NoFreeBlock, TooManyKeys}
@@ -23,9 +23,8 @@ use Rattle.calls.specs.declared.Granted.the-variants.{Wrote, Showed, GaveBack}
 use Rattle.calls.specs.declared.Source.{Source}
 use Rattle.calls.specs.declared.StoreFault.{StoreFault}
 use Rattle.calls.specs.declared.Written.the-variants.{Lower, Board}
-use Rattle.calls.specs.Answers.{Answer}
 use Rattle.ledger.specs.Order.{takesBlock, overfullWith, groundsOf, refusalOn, refusalIn, onGround, RefusedInOrder, RefusedLeaves}
-use Rattle.ledger.specs.Store.{Shape, State, Ask, shown, own, mapFull, unless, overfull, takes, writes, freeFor, writeAnswer, readAnswer, source, placed, clears, clearAnswer, fileAnswer, ifGranted, asAny, answerTo, bufferAfter, stateAfter, told, next}
+use Rattle.ledger.specs.Store.{Shape, State, shown, own, mapFull, unless, overfull, takes, writes, freeFor, writeAnswer, readAnswer, source, placed, clears, clearAnswer, fileAnswer, ifGranted, asAny, answerTo, bufferAfter, stateAfter}
 
 -- ---- in order
 
@@ -67,25 +66,25 @@ module _ (sh : Shape) (s : State) (sent : List ℕ) where
       let c : Call = Write file block mark in
       let r = writes sh (s .place) file block mark (freeFor sh s file block) (s .place file block) in
       front c Wrote file block r (ltb 1 mark) Mark _ _ refl
-      (front c Wrote file block r (leb (sh .files) file) File _ _ refl
-      (front c Wrote file block r (leb (sh .width) block) Block _ _ refl
+      (front c Wrote file block r (not (ltb file (sh .files))) File _ _ refl
+      (front c Wrote file block r (not (ltb block (sh .width))) Block _ _ refl
       (front c Wrote file block r (not (eqb (length sent) 4096)) Buffer None _ refl
       (write-late file block mark (s .place file block) (freeFor sh s file block)))))
   of (Read file block) =
       let c : Call = Read file block in
       let r : Result Source StoreFault = Ok (source (s .place file block)) in
-      front c Showed file block r (leb (sh .files) file) File _ _ refl
-      (front c Showed file block r (leb (sh .width) block) Block _ _ refl
+      front c Showed file block r (not (ltb file (sh .files))) File _ _ refl
+      (front c Showed file block r (not (ltb block (sh .width))) Block _ _ refl
       (front c Showed file block r (not (eqb (length sent) 4096)) Buffer None None refl refl))
   of (Clear file first n) =
       let c : Call = Clear file first n in
       let r = clears sh (s .place) file first n in
-      front c GaveBack file first r (leb (sh .files) file) File _ _ refl
-      (front c GaveBack file first r (leb (sh .width) first || ltb (sh .width) (first + n)) Block _ _ refl
+      front c GaveBack file first r (not (ltb file (sh .files))) File _ _ refl
+      (front c GaveBack file first r (not (ltb first (sh .width)) || ltb (sh .width) (first + n)) Block _ _ refl
       (front c GaveBack file first r (eqb n 0 || ltb 4096 n) Length None _ refl
       (clear-late file first n _ (overfull sh (changed (s .place) file (inside first n) (λ _. None))))))
-  of (Remove file) = front (Remove file) GaveBack file 0 (Ok (placed (s .place file) every (sh .width))) (leb (sh .files) file) File None None refl refl
-  of (Demote file) = front (Demote file) GaveBack file 0 (Ok (placed (s .place file) every (sh .width))) (leb (sh .files) file) File None None refl refl
+  of (Remove file) = front (Remove file) GaveBack file 0 (Ok (placed (s .place file) every (sh .width))) (not (ltb file (sh .files))) File None None refl refl
+  of (Demote file) = front (Demote file) GaveBack file 0 (Ok (placed (s .place file) every (sh .width))) (not (ltb file (sh .files))) File None None refl refl
 
 pub in-order : RefusedInOrder
 in-order sh s q = of sh s (q .sent) (q .call)

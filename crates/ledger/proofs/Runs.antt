@@ -1,16 +1,15 @@
 -- The laws over whole lists, from any sound store and then from a new one.
-use Prim.Native.Nat.{ℕ, zero, suc, _+_, _<_}
+use Prim.Native.Nat.{_+_}
 use mathlib.Core.Path.{_≡_, refl, sym, ap, ap₂, subst, fun-ext, _∙_}
 use mathlib.Core.List.{List, [], _∷_, _++_}
 use native.Mathlib.Omega.{arith}
-use Rattle.std.specs.declared.option.Option.the-variants.{Some, None}
-use Rattle.blocks.specs.Blocks.{Placement, Contents, tallyBelow}
+use Rattle.blocks.specs.Blocks.{Placement}
 use Rattle.blocks.proofs.Sums.{below-none}
-use Rattle.ledger.specs.Book.{Book, newBook, fed, bookAfter, placesIn, blocksTaken, blocksGivenBack}
-use Rattle.ledger.specs.Promise.{ShowsBook, FullExactly, Along, Holds, Kept, Alike, Agree, Promise}
+use Rattle.ledger.specs.Book.{Book, newBook, bookAfter, placesIn, blocksTaken, blocksGivenBack}
+use Rattle.ledger.specs.Promise.{ShowsBook, FullExactly, Along, Holds, Alike, Agree, Promise}
 use Rattle.ledger.specs.Sound.{Sound, New}
-use Rattle.ledger.specs.Store.{Shape, State, Ask, Told, shown, bytesAt, told, next, outcome, final}
-use Rattle.ledger.proofs.Calls.{bookOf, Keeps, keeps, shows, full}
+use Rattle.ledger.specs.Store.{Shape, State, Ask, Told, bytesAt, told, next, outcome, final}
+use Rattle.ledger.proofs.Calls.{bookOf, keeps, shows, full}
 use Rattle.ledger.proofs.Steps.{sound-new}
 use Rattle.ledger.proofs.Twins.{Same, same-told, same-next}
 
@@ -99,12 +98,14 @@ from-same sh s t w = record {
   board = w .board;
 }
 
-pub agree : (sh sh′ : Shape) (s s′ : State) → Sound sh s → Sound sh′ s′ → Alike sh s sh′ s′ → (qs : List Ask) → Agree sh s sh′ s′ qs
+pub agree : (sh sh′ : Shape) (s s′ : State) → Sound sh s → Sound sh′ s′ → Alike sh s sh′ s′ → (qs : List Ask)
+    → Agree sh (outcome sh s qs) (final sh s qs) sh′ (outcome sh′ s′ qs) (final sh′ s′ qs)
 agree sh sh′ s s′ ok ok′ al qs =
     let e = shape-path al in
     let same : Same sh s s′ = record { place = fun-ext (λ f. fun-ext (λ b. al .place f b)); lower = al .lower; board = al .board } in
     let w = same-run sh s s′ ok (subst (λ (z : Shape). Sound z s′) (sym e) ok′) same qs in
-    subst (λ (z : Shape). Agree sh s z s′ qs) e (record { told-alike = w .0; end-alike = from-same sh _ _ (w .1) })
+    subst (λ (z : Shape). Agree sh (outcome sh s qs) (final sh s qs) z (outcome z s′ qs) (final z s′ qs)) e
+    (record { told-alike = w .0; end-alike = from-same sh _ _ (w .1) })
 
 -- ---- from a new store
 
@@ -114,11 +115,11 @@ new-book sh s new = λ i. record
 
 pub promise : Promise
 promise = record {
-  kept = λ sh s new qs.
+  books = λ sh s new qs.
       let a = subst (λ (k : Book). Account sh k qs (outcome sh s qs) (final sh s qs .place)) (new-book sh s new) (account sh s (sound-new sh s new) qs) in
       let none = below-none (sh .files) (sh .width) (newBook (s .lower) .place) (λ f b. refl) in
       let sums = a .balance in
       record { reads = a .reads; full = a .full; balance = omega arith; places = a .places };
-  agree = λ sh sh′ s s′ new new′ qs qs′ al later.
+  agrees = λ sh sh′ s s′ new new′ qs qs′ later al.
       agree sh sh′ (final sh s qs) (final sh′ s′ qs′) (sound-final sh s (sound-new sh s new) qs) (sound-final sh′ s′ (sound-new sh′ s′ new′) qs′) al later;
 }

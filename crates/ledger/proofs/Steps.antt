@@ -1,19 +1,19 @@
 -- What a step leaves in step: map, pool and counts.
 use Prim.Native.Nat.{ℕ, zero, suc, _+_, _<_, _≤_}
-use mathlib.Core.Path.{_≡_, refl, sym, ap, ap₂, subst, _∙_}
+use mathlib.Core.Path.{_≡_, refl, sym, ap, ap₂, _∙_}
 use mathlib.Core.Bool.{Bool, true, false, cond, _&&_}
 use mathlib.Core.List.{List}
-use mathlib.Core.Logic.{_⊎_, inl, inr, _≢_}
+use mathlib.Core.Logic.{_⊎_, inl, inr}
 use native.Mathlib.Omega.{arith}
 use lib.Dec.{eqb}
 use Rattle.std.proofs.shelf.Tests.{cases-eq, cases-bool, cond-true, cond-false, eq-eqb, eqb-true, and-parts, and-from, both-ways}
 use Rattle.std.specs.Options.{isSome}
 use Rattle.std.specs.declared.option.Option.{Option}
 use Rattle.std.specs.declared.option.Option.the-variants.{Some, None}
-use Rattle.blocks.specs.Blocks.{Placement, Contents, only, changed, one, sum, count, tallyBelow}
+use Rattle.blocks.specs.Blocks.{Placement, Contents, only, changed, one, count, tallyBelow}
 use Rattle.blocks.proofs.Sums.{sum-same, sum-add, sum-change, below-change, below-none}
-use Rattle.blocks.proofs.Changes.{changed-here, changed-beside, changed-elsewhere, only-here}
-use Rattle.calls.specs.declared.Written.the-variants.{Lower, Board}
+use Rattle.blocks.proofs.Changes.{changed-here, changed-elsewhere, only-here}
+use Rattle.calls.specs.declared.Written.the-variants.{Board}
 use Rattle.ledger.specs.Sound.{Sound, New}
 use Rattle.ledger.specs.Store.{Shape, State, put, placed, freed, wrote, vacated}
 use Rattle.ledger.proofs.Pool.{put-here, put-other, none-some, some-same, freed-chosen, freed-taken, freed-other, freed-count}

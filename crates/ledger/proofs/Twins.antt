@@ -1,13 +1,13 @@
 -- Two stores that are alike answer a call alike, and are alike after it.
-use Prim.Native.Nat.{ℕ, _+_, _<_, _≤_}
-use mathlib.Core.Path.{_≡_, refl, sym, ap, ap₂, subst, fun-ext, _∙_}
+use Prim.Native.Nat.{ℕ, _<_}
+use mathlib.Core.Path.{_≡_, refl, sym, ap, ap₂, subst, _∙_}
 use mathlib.Core.Bool.{Bool, true, false, cond, _&&_}
 use mathlib.Core.List.{List}
-use mathlib.Core.Logic.{_⊎_, inl, inr, _≢_}
+use mathlib.Core.Logic.{inl, inr}
 use native.Mathlib.Omega.{arith}
 use lib.Dec.{eqb}
 use lib.ListN.{length}
-use Rattle.std.proofs.shelf.Tests.{cases-eq, and-parts, eqb-true}
+use Rattle.std.proofs.shelf.Tests.{and-parts, eqb-true}
 use Rattle.std.specs.Options.{isSome}
 use Rattle.std.specs.declared.option.Option.{Option}
 use Rattle.std.specs.declared.option.Option.the-variants.{Some, None}
@@ -24,7 +24,7 @@ use Rattle.calls.specs.declared.Written.{Written}
 use Rattle.calls.specs.declared.Written.the-variants.{Lower, Board}
 use Rattle.ledger.specs.Free.{goal, freeFrom}
 use Rattle.ledger.specs.Sound.{Sound}
-use Rattle.ledger.specs.Store.{Shape, State, Ask, Told, bytesAt, shown, put, unless, ifGranted, badWrite, writes, freeFor, writeAnswer, wrote, badRead, source, readAnswer, readBuffer, freed, vacated, clearAnswer, cleared, fileAnswer, removed, demoted, asAny, answerTo, bufferAfter, stateAfter, told, next}
+use Rattle.ledger.specs.Store.{Shape, State, Ask, bytesAt, shown, put, unless, ifGranted, badWrite, writes, freeFor, writeAnswer, wrote, badRead, source, readAnswer, vacated, clearAnswer, fileAnswer, asAny, answerTo, bufferAfter, stateAfter, told, next}
 use Rattle.ledger.proofs.Admits.{admitted-read}
 use Rattle.ledger.proofs.Pool.{none-some, some-same, put-here}
 use Rattle.ledger.proofs.Search.{free-same}
@@ -147,15 +147,18 @@ module _ (sh : Shape) (s t : State) (ok : Sound sh s) (ok′ : Sound sh t) (al :
 
   same-buffer : (c : Call) (sent : List ℕ) → bufferAfter sh s c sent ≡ bufferAfter sh t c sent
   same-buffer (Write file block mark) sent = refl
-  same-buffer (Read file block) sent =
-      go (badRead sh file block (length sent)) refl
-      ∙ ap (λ (r : Result Source StoreFault). ifGranted r sent (λ _. shown t file block)) (read-alike file block (length sent))
+  same-buffer (Read file block) sent = go _
     where
-      go : (o : Option Ground) → badRead sh file block (length sent) ≡ o
-          → ifGranted (unless o file block (Ok (source (s .place file block)))) sent (λ _. shown s file block)
-          ≡ ifGranted (unless o file block (Ok (source (s .place file block)))) sent (λ _. shown t file block)
-      go (Some g) e = refl
-      go None e = let a = admitted-read sh file block (length sent) e in same-shown file block (a .0) (a .1)
+      granted : (old : List ℕ) (o : Option Ground) → badRead sh file block (length sent) ≡ o
+          → ifGranted (unless o file block (Ok (source (s .place file block)))) old (λ _. shown s file block)
+          ≡ ifGranted (unless o file block (Ok (source (s .place file block)))) old (λ _. shown t file block)
+      granted old (Some g) e = refl
+      granted old None e = let a = admitted-read sh file block (length sent) e in same-shown file block (a .0) (a .1)
+
+      go : (old : List ℕ) → ifGranted (readAnswer sh s file block (length sent)) old (λ _. shown s file block)
+          ≡ ifGranted (readAnswer sh t file block (length sent)) old (λ _. shown t file block)
+      go old = granted old (badRead sh file block (length sent)) refl
+          ∙ ap (λ (r : Result Source StoreFault). ifGranted r old (λ _. shown t file block)) (read-alike file block (length sent))
   same-buffer (Clear file first n) sent = refl
   same-buffer (Remove file) sent = refl
   same-buffer (Demote file) sent = refl

@@ -1,9 +1,9 @@
 -- Every ground on which a call is refused, in the order in which they are tried.
 use Prim.Native.Nat.{ℕ, _+_}
 use mathlib.Core.Path.{_≡_}
-use mathlib.Core.Bool.{Bool, true, false, cond, not, _&&_, _||_}
+use mathlib.Core.Bool.{Bool, false, cond, not, _&&_, _||_}
 use mathlib.Core.List.{List, [], _∷_}
-use lib.Dec.{eqb, ltb, leb}
+use lib.Dec.{eqb, ltb}
 use lib.ListN.{length}
 use Rattle.blocks.specs.Blocks.{Placement, only, inside, changed}
 use Rattle.faults.specs.Grounds.{groundNumber, firstGround}
@@ -35,25 +35,25 @@ overfullWith sh pl file block None = false
 abbrev pub groundsOf : Shape → State → Call → ℕ → List (Bool × Ground)
 groundsOf sh s (Write file block mark) len =
     (ltb 1 mark, Mark)
-    ∷ (leb (sh .files) file, File)
-    ∷ (leb (sh .width) block, Block)
+    ∷ (not (ltb file (sh .files)), File)
+    ∷ (not (ltb block (sh .width)), Block)
     ∷ (not (eqb len 4096), Buffer)
     ∷ (takesBlock (s .place file block) mark && not (isSome (freeFor sh s file block)), NoFreeBlock)
     ∷ (takesBlock (s .place file block) mark && overfullWith sh (s .place) file block (freeFor sh s file block), TooManyKeys)
     ∷ []
 groundsOf sh s (Read file block) len =
-    (leb (sh .files) file, File)
-    ∷ (leb (sh .width) block, Block)
+    (not (ltb file (sh .files)), File)
+    ∷ (not (ltb block (sh .width)), Block)
     ∷ (not (eqb len 4096), Buffer)
     ∷ []
 groundsOf sh s (Clear file first n) len =
-    (leb (sh .files) file, File)
-    ∷ (leb (sh .width) first || ltb (sh .width) (first + n), Block)
+    (not (ltb file (sh .files)), File)
+    ∷ (not (ltb first (sh .width)) || ltb (sh .width) (first + n), Block)
     ∷ (eqb n 0 || ltb 4096 n, Length)
     ∷ (overfull sh (changed (s .place) file (inside first n) (λ _. None)), TooManyKeys)
     ∷ []
-groundsOf sh s (Remove file) len = (leb (sh .files) file, File) ∷ []
-groundsOf sh s (Demote file) len = (leb (sh .files) file, File) ∷ []
+groundsOf sh s (Remove file) len = (not (ltb file (sh .files)), File) ∷ []
+groundsOf sh s (Demote file) len = (not (ltb file (sh .files)), File) ∷ []
 
 -- the file of a call
 abbrev pub fileOf : Call → ℕ

@@ -45,7 +45,7 @@ pub record Holds (sh : Shape) (map : Placement) (k : Book) : Type 0 where
   pub apart : (f b g c p : ℕ) → k .place f b ≡ Some p → k .place g c ≡ Some p → (f ≡ g) × (b ≡ c)
 
 -- What was asked of a store and told by it, beside the bytes that its lower store began with and the map that it ends with.
-pub record Kept (sh : Shape) (low : Contents) (qs : List Ask) (ts : List Told) (map : Placement) : Type 0 where
+pub record TrueToBook (sh : Shape) (low : Contents) (qs : List Ask) (ts : List Told) (map : Placement) : Type 0 where
   pub reads : Along ShowsBook (sh .width) (newBook low) qs ts
   pub full : Along (FullExactly sh) (sh .width) (newBook low) qs ts
   -- blocks taken, less blocks given back, are the places in the book
@@ -65,18 +65,20 @@ pub record Alike (sh : Shape) (s : State) (sh′ : Shape) (s′ : State) : Type 
   pub lower : (f b : ℕ) → f < sh .files → b < sh .width → s .lower f b ≡ s′ .lower f b
   pub board : (f b p : ℕ) → s .place f b ≡ Some p → s .board p ≡ s′ .board p
 
--- Two stores after the same calls.
-pub record Agree (sh : Shape) (s : State) (sh′ : Shape) (s′ : State) (qs : List Ask) : Type 0 where
+-- What two stores told of the same calls, and what they hold at the end.
+pub record Agree (sh : Shape) (ts : List Told) (s : State) (sh′ : Shape) (ts′ : List Told) (s′ : State) : Type 0 where
   -- the same answers, refusals and read bytes
-  pub told-alike : outcome sh s qs ≡ outcome sh′ s′ qs
+  pub told-alike : ts ≡ ts′
   -- and the ends are alike again
-  pub end-alike : Alike sh (final sh s qs) sh′ (final sh′ s′ qs)
+  pub end-alike : Alike sh s sh′ s′
 
 -- ---- the whole promise
 
 pub record Promise : Type 0 where
-  -- after every list of calls from a new store
-  pub kept : (sh : Shape) (s : State) → New sh s → (qs : List Ask) → Kept sh (s .lower) qs (outcome sh s qs) (final sh s qs .place)
-  -- two stores that are alike after any two lists agree over every later list
-  pub agree : (sh sh′ : Shape) (s s′ : State) → New sh s → New sh′ s′ → (qs qs′ : List Ask)
-      → Alike sh (final sh s qs) sh′ (final sh′ s′ qs′) → (later : List Ask) → Agree sh (final sh s qs) sh′ (final sh′ s′ qs′) later
+  -- Every list of calls, from a new store on, is told true to the book.
+  pub books : (sh : Shape) (s : State) → New sh s → (qs : List Ask) → TrueToBook sh (s .lower) qs (outcome sh s qs) (final sh s qs .place)
+  -- Two stores, each reached from a new one by a list of its own, that are alike then, agree over every later list.
+  pub agrees : (sh sh′ : Shape) (s s′ : State) → New sh s → New sh′ s′ → (qs qs′ later : List Ask)
+      → Alike sh (final sh s qs) sh′ (final sh′ s′ qs′)
+      → Agree sh (outcome sh (final sh s qs) later) (final sh (final sh s qs) later)
+      sh′ (outcome sh′ (final sh′ s′ qs′) later) (final sh′ (final sh′ s′ qs′) later)

@@ -1,7 +1,7 @@
 -- What keeps the map, the pool and the sizes of a store in step.
 use Prim.Native.Nat.{ℕ, _<_}
 use mathlib.Core.Path.{_≡_}
-use mathlib.Core.Bool.{Bool, true, false}
+use mathlib.Core.Bool.{true, false}
 use Rattle.blocks.specs.Blocks.{count, tallyBelow}
 use Rattle.ledger.specs.Store.{Shape, State}
 use Rattle.std.specs.declared.option.Option.the-variants.{Some, None}

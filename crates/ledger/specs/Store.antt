@@ -2,7 +2,7 @@
 use Prim.Native.Nat.{ℕ, zero, suc, _+_}
 use mathlib.Core.Bool.{Bool, true, false, cond, not, _&&_, _||_}
 use mathlib.Core.List.{List, [], _∷_}
-use lib.Dec.{eqb, ltb, leb}
+use lib.Dec.{eqb, ltb}
 use lib.ListN.{length}
 use Rattle.blocks.specs.Blocks.{Placement, Contents, zeroBlock, only, inside, every, changed, count}
 use Rattle.faults.specs.Grounds.{firstGround}
@@ -92,8 +92,8 @@ ifGranted (Err f) y make = y
 abbrev pub badWrite : Shape → ℕ → ℕ → ℕ → ℕ → Option Ground
 badWrite sh file block mark len = firstGround
     ((ltb 1 mark, Mark)
-    ∷ (leb (sh .files) file, File)
-    ∷ (leb (sh .width) block, Block)
+    ∷ (not (ltb file (sh .files)), File)
+    ∷ (not (ltb block (sh .width)), Block)
     ∷ (not (eqb len 4096), Buffer)
     ∷ [])
 
@@ -133,8 +133,8 @@ afterWrite sh s file block mark bytes = ifGranted (writeAnswer sh s file block m
 
 abbrev pub badRead : Shape → ℕ → ℕ → ℕ → Option Ground
 badRead sh file block len = firstGround
-    ((leb (sh .files) file, File)
-    ∷ (leb (sh .width) block, Block)
+    ((not (ltb file (sh .files)), File)
+    ∷ (not (ltb block (sh .width)), Block)
     ∷ (not (eqb len 4096), Buffer)
     ∷ [])
 
@@ -179,8 +179,8 @@ vacated sh s file chosen low = record {
 
 abbrev pub badClear : Shape → ℕ → ℕ → ℕ → Option Ground
 badClear sh file first n = firstGround
-    ((leb (sh .files) file, File)
-    ∷ (leb (sh .width) first || ltb (sh .width) (first + n), Block)
+    ((not (ltb file (sh .files)), File)
+    ∷ (not (ltb first (sh .width)) || ltb (sh .width) (first + n), Block)
     ∷ (eqb n 0 || ltb 4096 n, Length)
     ∷ [])
 
@@ -201,7 +201,7 @@ afterClear sh s file first n = ifGranted (clearAnswer sh s file first n) s (λ _
 
 -- Both give back every board block of the file, and only the file can be refused.
 abbrev pub fileAnswer : Shape → State → ℕ → Result ℕ StoreFault
-fileAnswer sh s file = unless (firstGround ((leb (sh .files) file, File) ∷ [])) file 0 (Ok (placed (s .place file) every (sh .width)))
+fileAnswer sh s file = unless (firstGround ((not (ltb file (sh .files)), File) ∷ [])) file 0 (Ok (placed (s .place file) every (sh .width)))
 
 -- a remove clears the lower store too
 abbrev pub removed : Shape → State → ℕ → State

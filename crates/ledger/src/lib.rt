@@ -3,6 +3,7 @@
 ghost use Rattle.ledger.specs.Free.{FindsNearest};
 ghost use Rattle.ledger.specs.Order.{RefusedInOrder, RefusedLeaves};
 ghost use Rattle.ledger.specs.Promise.{Promise};
+ghost use Rattle.ledger.specs.Where.{WritesWhere, ReadsWhere};
 ghost use Rattle.ledger.specs.Worked.{WorkedBoard};
 
 /// What holds after every list of calls.
@@ -18,6 +19,16 @@ pub fn refused_in_order()
 /// A refused call changes nothing.
 pub fn refused_leaves()
     ensures { λ _. ⌜ RefusedLeaves ⌝ }
+{}
+
+/// Where a granted write puts its bytes.
+pub fn writes_where()
+    ensures { λ _. ⌜ WritesWhere ⌝ }
+{}
+
+/// Where the bytes of a granted read came from.
+pub fn reads_where()
+    ensures { λ _. ⌜ ReadsWhere ⌝ }
 {}
 
 /// The board block that is taken is the first free one from the goal on, going round.

@@ -12,6 +12,7 @@ use Rattle.std.specs.Options.{isSome}
 use Rattle.std.specs.Results.{isOk}
 use Rattle.std.specs.declared.option.Option.{Option}
 use Rattle.std.specs.declared.option.Option.the-variants.{Some, None}
+use Rattle.std.specs.declared.result.Result.{Result}
 use Rattle.std.specs.declared.result.Result.the-variants.{Ok, Err}
 use Rattle.blocks.specs.Blocks.{Contents, zeroBlock, only, inside, every, changed, one, tallyBelow}
 use Rattle.blocks.proofs.Sums.{count-full, full-count, below-change}
@@ -20,6 +21,7 @@ use Rattle.faults.specs.declared.Ground.{Ground}
 use Rattle.faults.specs.declared.Ground.the-variants.{File}
 use Rattle.calls.specs.declared.Call.{Call}
 use Rattle.calls.specs.declared.Call.the-variants.{Write, Read, Clear, Remove, Demote}
+use Rattle.calls.specs.declared.Granted.{Granted}
 use Rattle.calls.specs.declared.Granted.the-variants.{Wrote, Showed, GaveBack}
 use Rattle.calls.specs.declared.StoreFault.{StoreFault}
 use Rattle.calls.specs.declared.Written.the-variants.{Lower, Board}
@@ -43,6 +45,10 @@ pub record Keeps (sh : Shape) (s : State) (c : Call) (sent : List ℕ) (a : Answ
   pub sound : Sound sh s′
   pub book : fed (sh .width) (bookOf s) c sent a ≡ bookOf s′
   pub balance : tallyBelow (sh .files) (sh .width) (s .place) + takenIn a ≡ tallyBelow (sh .files) (sh .width) (s′ .place) + givenBackIn a
+
+-- The same of an answer of one kind, with what a grant of that kind makes.
+abbrev KeepsBy : {X : Type 0} → Shape → State → Call → List ℕ → (X → Granted) → (X → State) → Result X StoreFault → Type 0
+KeepsBy sh s c sent kind make r = Keeps sh s c sent (asAny kind r) (ifGranted r s make)
 
 book-path : {x y : Book} → ((f b : ℕ) → x .bytes f b ≡ y .bytes f b) → ((f b : ℕ) → x .place f b ≡ y .place f b) → x ≡ y
 book-path e h = λ i. record { bytes = λ f b. e f b i; place = λ f b. h f b i }
@@ -102,8 +108,8 @@ module _ (sh : Shape) (s : State) (ok : Sound sh s) where
       → Keeps sh s (Write file block mark) sent (answerTo sh s (Write file block mark) sent) (stateAfter sh s (Write file block mark) sent)
   keeps-write file block mark sent = admitted (badWrite sh file block mark (length sent)) refl
     where
-      roomy : file < sh .files → block < sh .width → s .place file block ≡ None → (p : ℕ) → freeFor sh s file block ≡ Some p
-          → (v : Bool) → Keeps sh s (Write file block mark) sent (asAny Wrote (cond v (Err (mapFull file block)) (Ok (Board p true)))) (ifGranted (cond v (Err (mapFull file block)) (Ok (Board p true))) s (wrote s file block sent))
+      roomy : file < sh .files → block < sh .width → s .place file block ≡ None → (p : ℕ) → freeFor sh s file block ≡ Some p → (v : Bool)
+          → KeepsBy sh s (Write file block mark) sent Wrote (wrote s file block sent) (cond v (Err (mapFull file block)) (Ok (Board p true)))
       roomy lf lb e p h true = refused (Write file block mark) sent (mapFull file block)
       roomy lf lb e p h false =
           let w = found-free (s .taken) (sh .size) (goal (sh .size) (s .place file) block) p h in
@@ -111,40 +117,36 @@ module _ (sh : Shape) (s : State) (ok : Sound sh s) where
           let x = ap (λ (o : Option ℕ). one (isSome o)) e in
           record {
             sound = sound-take sh s ok file block p sent lf lb (w .0) (w .1) e;
-            book = book-path (λ f b. taken-bytes file block p sent (w .1) f b) (λ f b. refl);
+            book = book-path (taken-bytes file block p sent (w .1)) (λ f b. refl);
             balance = omega arith;
           }
 
       free : file < sh .files → block < sh .width → s .place file block ≡ None → (o : Option ℕ) → freeFor sh s file block ≡ o
-          → Keeps sh s (Write file block mark) sent (asAny Wrote (takes sh (s .place) file block o)) (ifGranted (takes sh (s .place) file block o) s (wrote s file block sent))
+          → KeepsBy sh s (Write file block mark) sent Wrote (wrote s file block sent) (takes sh (s .place) file block o)
       free lf lb e None h = refused (Write file block mark) sent _
       free lf lb e (Some p) h = roomy lf lb e p h (overfull sh (changed (s .place) file (only block) (λ _. Some p)))
 
       marked : file < sh .files → block < sh .width → s .place file block ≡ None → (v : Bool)
-          → Keeps sh s (Write file block mark) sent (asAny Wrote (cond v (Ok Lower) (takes sh (s .place) file block (freeFor sh s file block))))
-          (ifGranted (cond v (Ok Lower) (takes sh (s .place) file block (freeFor sh s file block))) s (wrote s file block sent))
+          → KeepsBy sh s (Write file block mark) sent Wrote (wrote s file block sent) (cond v (Ok Lower) (takes sh (s .place) file block (freeFor sh s file block)))
       marked lf lb e false = free lf lb e (freeFor sh s file block) refl
-      marked lf lb e true =
-          record {
-            sound = record { within = ok .within; owned = ok .owned; apart = ok .apart; counted = ok .counted };
-            book = book-path (λ f b. lower-bytes file block sent e f b) (λ f b. refl);
-            balance = refl;
-          }
+      marked lf lb e true = record {
+        sound = record { within = ok .within; owned = ok .owned; apart = ok .apart; counted = ok .counted };
+        book = book-path (lower-bytes file block sent e) (λ f b. refl);
+        balance = refl;
+      }
 
       mapped : file < sh .files → block < sh .width → (o : Option ℕ) → s .place file block ≡ o
-          → Keeps sh s (Write file block mark) sent (asAny Wrote (writes sh (s .place) file block mark (freeFor sh s file block) o))
-          (ifGranted (writes sh (s .place) file block mark (freeFor sh s file block) o) s (wrote s file block sent))
+          → KeepsBy sh s (Write file block mark) sent Wrote (wrote s file block sent) (writes sh (s .place) file block mark (freeFor sh s file block) o)
       mapped lf lb None e = marked lf lb e (eqb mark 0)
-      mapped lf lb (Some p) e =
-          record {
-            sound = record { within = ok .within; owned = ok .owned; apart = ok .apart; counted = ok .counted };
-            book = book-path (λ f b. replaced-bytes file block p sent e f b) (λ f b. changed-same (s .place) file block (Some p) e f b);
-            balance = refl;
-          }
+      mapped lf lb (Some p) e = record {
+        sound = record { within = ok .within; owned = ok .owned; apart = ok .apart; counted = ok .counted };
+        book = book-path (replaced-bytes file block p sent e) (changed-same (s .place) file block (Some p) e);
+        balance = refl;
+      }
 
       admitted : (o : Option Ground) → badWrite sh file block mark (length sent) ≡ o
-          → Keeps sh s (Write file block mark) sent (asAny Wrote (unless o file block (writes sh (s .place) file block mark (freeFor sh s file block) (s .place file block))))
-          (ifGranted (unless o file block (writes sh (s .place) file block mark (freeFor sh s file block) (s .place file block))) s (wrote s file block sent))
+          → KeepsBy sh s (Write file block mark) sent Wrote (wrote s file block sent)
+          (unless o file block (writes sh (s .place) file block mark (freeFor sh s file block) (s .place file block)))
       admitted (Some g) e = refused (Write file block mark) sent _
       admitted None e = let a = admitted-write sh file block mark (length sent) e in mapped (a .1) (a .2) (s .place file block) refl
 
@@ -164,9 +166,8 @@ module _ (sh : Shape) (s : State) (ok : Sound sh s) where
   keeps-clear file first n sent = admitted (badClear sh file first n) refl (overfull sh (changed (s .place) file (inside first n) (λ _. None)))
     where
       admitted : (o : Option Ground) → badClear sh file first n ≡ o → (v : Bool)
-          → Keeps sh s (Clear file first n) sent
-          (asAny GaveBack (unless o file first (cond v (Err (mapFull file first)) (Ok (placed (s .place file) (inside first n) (sh .width))))))
-          (ifGranted (unless o file first (cond v (Err (mapFull file first)) (Ok (placed (s .place file) (inside first n) (sh .width))))) s (λ _. cleared sh s file first n))
+          → KeepsBy sh s (Clear file first n) sent GaveBack (λ _. cleared sh s file first n)
+          (unless o file first (cond v (Err (mapFull file first)) (Ok (placed (s .place file) (inside first n) (sh .width)))))
       admitted (Some g) e v = refused (Clear file first n) sent _
       admitted None e true = refused (Clear file first n) sent _
       admitted None e false =
@@ -191,15 +192,15 @@ module _ (sh : Shape) (s : State) (ok : Sound sh s) where
       go true true o e = refl
       go true false o e = e
 
-  -- What each of the two makes of the bytes and the places, from the book's side.
+  -- A whole file loses its places, with a lower store that suits the book.
   keeps-file : (c : Call) (sent : List ℕ) (file : ℕ) (low : Contents)
       → fed (sh .width) (bookOf s) c sent (Ok (GaveBack (placed (s .place file) every (sh .width)))) ≡ bookOf (vacated sh s file every low)
-      → Keeps sh s c sent (asAny GaveBack (fileAnswer sh s file)) (ifGranted (fileAnswer sh s file) s (λ _. vacated sh s file every low))
+      → KeepsBy sh s c sent GaveBack (λ _. vacated sh s file every low) (fileAnswer sh s file)
   keeps-file c sent file low e = go (not (ltb file (sh .files))) refl
     where
       go : (v : Bool) → not (ltb file (sh .files)) ≡ v
-          → Keeps sh s c sent (asAny GaveBack (unless (cond v (Some File) None) file 0 (Ok (placed (s .place file) every (sh .width)))))
-          (ifGranted (unless (cond v (Some File) None) file 0 (Ok (placed (s .place file) every (sh .width)))) s (λ _. vacated sh s file every low))
+          → KeepsBy sh s c sent GaveBack (λ _. vacated sh s file every low)
+          (unless (cond v (Some File) None) file 0 (Ok (placed (s .place file) every (sh .width))))
       go true h = refused c sent _
       go false h =
           let lf = is-below file (sh .files) h in

@@ -8,3 +8,4 @@ pub mod Calls
 pub mod Twins
 pub mod Runs
 pub mod Board
+pub mod Pieces

@@ -5,18 +5,19 @@ use mathlib.Core.Bool.{Bool, true, false, cond}
 use mathlib.Core.Logic.{inl, inr}
 use native.Mathlib.Omega.{arith}
 use lib.Dec.{leb}
-use Rattle.std.proofs.shelf.Tests.{cases-eq, cases-lt, cond-true, cond-false, le-leb, lt-leb, both-ways}
+use Rattle.std.proofs.shelf.Tests.{cases-eq, cases-lt, cases-order, cond-true, cond-false, le-leb, lt-leb, both-ways}
 use Rattle.std.specs.declared.option.Option.{Option}
 use Rattle.std.specs.declared.option.Option.the-variants.{Some, None}
 use Rattle.ledger.specs.Free.{firstFree, orElse, freeFrom, steps, NearestFree, FindsNearest}
 
 -- ---- upwards
 
-abbrev Lowest : (ℕ → Bool) → ℕ → ℕ → Option ℕ → Type 0
+-- What is found in the numbers from one up to another: none if all are taken, else the lowest that is not.
+abbrev pub Lowest : (ℕ → Bool) → ℕ → ℕ → Option ℕ → Type 0
 Lowest t from to None = (q : ℕ) → from ≤ q → q < to → t q ≡ true
 Lowest t from to (Some p) = (from ≤ p) × (p < to) × (t p ≡ false) × ((q : ℕ) → from ≤ q → q < p → t q ≡ true)
 
-lowest : (t : ℕ → Bool) (from n : ℕ) → Lowest t from (from + n) (firstFree t from n)
+pub lowest : (t : ℕ → Bool) (from n : ℕ) → Lowest t from (from + n) (firstFree t from n)
 lowest t from zero = λ q a b. absurd (omega arith)
 lowest t from (suc n) = go (t from) refl (firstFree t (suc from) n) (lowest t (suc from) n)
   where
@@ -93,3 +94,60 @@ first-same t u from (suc n) e =
 pub free-same : (t u : ℕ → Bool) (size from : ℕ) → ((q : ℕ) → q < size → t q ≡ u q) → freeFrom t size from ≡ freeFrom u size from
 free-same t u size from e =
     ap₂ orElse (first-same t u from (size - from) (λ q a b. e q (omega arith))) (first-same t u 0 size (λ q a b. e q (omega arith)))
+
+-- ---- whoever finds so finds the same
+
+-- two lowest are one
+lowest-same : (t : ℕ → Bool) (from to : ℕ) (o u : Option ℕ) → Lowest t from to o → Lowest t from to u → o ≡ u
+lowest-same t from to None None f g = refl
+lowest-same t from to None (Some p) f g = absurd (both-ways (t p) (g .2) (f p (g .0) (g .1)))
+lowest-same t from to (Some p) None f g = absurd (both-ways (t p) (f .2) (g p (f .0) (f .1)))
+lowest-same t from to (Some p) (Some q) f g =
+    elim (cases-order p q) [
+      | inl e ↦ ap Some e
+      | inr d ↦ elim d [
+        | inl l ↦ absurd (both-ways (t p) (f .2) (g .3 p (f .0) l))
+        | inr l ↦ absurd (both-ways (t q) (g .2) (f .3 q (g .0) l))
+      ]
+    ]
+
+pub lowest-only : (t : ℕ → Bool) (from n : ℕ) (o : Option ℕ) → Lowest t from (from + n) o → o ≡ firstFree t from n
+lowest-only t from n o f = lowest-same t from (from + n) o (firstFree t from n) f (lowest t from n)
+
+steps-apart : (size from p q : ℕ) → from < size → p < size → q < size → steps size from p ≡ steps size from q → p ≡ q
+steps-apart size from p q l lp lq e =
+    elim (cases-lt p from) [
+      | inl a ↦ elim (cases-lt q from) [
+        | inl b ↦ omega (arith, steps-round size from p a, steps-round size from q b)
+        | inr b ↦ absurd (omega (arith, steps-round size from p a, steps-up size from q b))
+      ]
+      | inr a ↦ elim (cases-lt q from) [
+        | inl b ↦ absurd (omega (arith, steps-up size from p a, steps-round size from q b))
+        | inr b ↦ omega (arith, steps-up size from p a, steps-up size from q b)
+      ]
+    ]
+
+-- two nearest are one
+nearest-same : (t : ℕ → Bool) (size from : ℕ) → from < size → (o u : Option ℕ) → NearestFree t size from o → NearestFree t size from u → o ≡ u
+nearest-same t size from l None None f g = refl
+nearest-same t size from l None (Some p) f g = absurd (both-ways (t p) (g .1) (f p (g .0)))
+nearest-same t size from l (Some p) None f g = absurd (both-ways (t p) (f .1) (g p (f .0)))
+nearest-same t size from l (Some p) (Some q) f g =
+    elim (cases-order (steps size from p) (steps size from q)) [
+      | inl e ↦ ap Some (steps-apart size from p q l (f .0) (g .0) e)
+      | inr d ↦ elim d [
+        | inl m ↦ absurd (both-ways (t p) (f .1) (g .2 p (f .0) m))
+        | inr m ↦ absurd (both-ways (t q) (g .1) (f .2 q (g .0) m))
+      ]
+    ]
+
+pub nearest-only : (t : ℕ → Bool) (size from : ℕ) → from < size → (o : Option ℕ) → NearestFree t size from o → o ≡ freeFrom t size from
+nearest-only t size from l o f = nearest-same t size from l o (freeFrom t size from) f (nearest t size from l)
+
+-- On a board of no blocks none is found.
+pub none-of-none : (t : ℕ → Bool) (from : ℕ) → freeFrom t 0 from ≡ None
+none-of-none t from = go (freeFrom t 0 from) (finds t 0 from)
+  where
+    go : (o : Option ℕ) → Found t 0 o → o ≡ None
+    go None f = refl
+    go (Some p) f = absurd (omega (arith, f .0))

@@ -5,16 +5,16 @@ use mathlib.Core.Bool.{true, false, not}
 use mathlib.Core.Logic.{_≢_}
 use native.Mathlib.Omega.{arith}
 use lib.Dec.{eqb, ltb}
-use Rattle.std.proofs.shelf.Tests.{cond-true, cond-false, eq-eqb, ne-eqb, le-ltb, lt-ltb}
+use Rattle.std.proofs.shelf.Tests.{cond-true, cond-false, eq-eqb, ne-eqb}
 use Rattle.std.proofs.shelf.Ways.{tells}
 use Rattle.std.specs.declared.option.Option.{Option}
 use Rattle.std.specs.declared.option.Option.the-variants.{Some, None}
 use Rattle.std.specs.declared.result.Result.the-variants.{Ok, Err}
-use Rattle.blocks.specs.Blocks.{only, inside, every, changed}
+use Rattle.blocks.specs.Blocks.{Placement, only, inside, every, changed}
 use Rattle.faults.specs.declared.Ground.{Ground}
 use Rattle.faults.specs.declared.Ground.the-variants.{File}
 use Rattle.calls.specs.declared.Written.the-variants.{Lower, Board}
-use Rattle.ledger.specs.Store.{Shape, State, own, mapFull, unless, badWrite, takes, writes, freeFor, writeAnswer, badRead, readAnswer, source, badClear, clears, clearAnswer, placed, fileAnswer}
+use Rattle.ledger.specs.Store.{Shape, State, own, mapFull, unless, overfull, badWrite, takes, writes, freeFor, writeAnswer, badRead, readAnswer, source, badClear, clears, clearAnswer, placed, fileAnswer}
 
 -- ---- the arguments
 
@@ -56,6 +56,13 @@ module _ (sh : Shape) (s : State) (file : ℕ) where
 
 -- ---- an admitted write
 
+-- whether the map has room for it
+has-room : (sh : Shape) (pl : Placement) → sh .rule pl ≤ sh .keys → overfull sh pl ≡ false
+has-room sh pl room = grind (arith, tells)
+
+no-room : (sh : Shape) (pl : Placement) → sh .keys < sh .rule pl → overfull sh pl ≡ true
+no-room sh pl room = grind (arith, tells)
+
 module _ (sh : Shape) (s : State) (file block mark len : ℕ) (ad : badWrite sh file block mark len ≡ None) where
   pub write-admitted : writeAnswer sh s file block mark len ≡ writes sh (s .place) file block mark (freeFor sh s file block) (s .place file block)
   write-admitted = ap (λ (o : Option Ground). unless o file block (writes sh (s .place) file block mark (freeFor sh s file block) (s .place file block))) ad
@@ -79,11 +86,11 @@ module _ (sh : Shape) (s : State) (file block mark len : ℕ) (ad : badWrite sh 
 
   pub write-new : s .place file block ≡ None → mark ≢ 0 → (p : ℕ) → freeFor sh s file block ≡ Some p
       → sh .rule (changed (s .place) file (only block) (λ _. Some p)) ≤ sh .keys → writeAnswer sh s file block mark len ≡ Ok (Board p true)
-  write-new e m p h room = write-takes e m (Some p) h ∙ cond-false _ _ _ (le-ltb (sh .keys) (sh .rule (changed (s .place) file (only block) (λ _. Some p))) room)
+  write-new e m p h room = write-takes e m (Some p) h ∙ cond-false _ _ _ (has-room sh (changed (s .place) file (only block) (λ _. Some p)) room)
 
   pub write-overfull : s .place file block ≡ None → mark ≢ 0 → (p : ℕ) → freeFor sh s file block ≡ Some p
       → sh .keys < sh .rule (changed (s .place) file (only block) (λ _. Some p)) → writeAnswer sh s file block mark len ≡ Err (mapFull file block)
-  write-overfull e m p h room = write-takes e m (Some p) h ∙ cond-true _ _ _ (lt-ltb (sh .keys) (sh .rule (changed (s .place) file (only block) (λ _. Some p))) room)
+  write-overfull e m p h room = write-takes e m (Some p) h ∙ cond-true _ _ _ (no-room sh (changed (s .place) file (only block) (λ _. Some p)) room)
 
 -- ---- an admitted clear
 
@@ -93,7 +100,7 @@ module _ (sh : Shape) (s : State) (file first n : ℕ) (ad : badClear sh file fi
 
   pub clear-granted : sh .rule (changed (s .place) file (inside first n) (λ _. None)) ≤ sh .keys
       → clearAnswer sh s file first n ≡ Ok (placed (s .place file) (inside first n) (sh .width))
-  clear-granted room = clear-admitted ∙ cond-false _ _ _ (le-ltb (sh .keys) (sh .rule (changed (s .place) file (inside first n) (λ _. None))) room)
+  clear-granted room = clear-admitted ∙ cond-false _ _ _ (has-room sh (changed (s .place) file (inside first n) (λ _. None)) room)
 
   pub clear-overfull : sh .keys < sh .rule (changed (s .place) file (inside first n) (λ _. None)) → clearAnswer sh s file first n ≡ Err (mapFull file first)
-  clear-overfull room = clear-admitted ∙ cond-true _ _ _ (lt-ltb (sh .keys) (sh .rule (changed (s .place) file (inside first n) (λ _. None))) room)
+  clear-overfull room = clear-admitted ∙ cond-true _ _ _ (no-room sh (changed (s .place) file (inside first n) (λ _. None)) room)

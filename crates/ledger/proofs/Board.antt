@@ -140,10 +140,10 @@ module _ (rule : Placement → ℕ) (most : (pl : Placement) → rule pl ≤ tal
       (full ∙ ap (_∷_ (Err (own NoFreeBlock 0 0))) (gave ∙ ap (_∷_ (Ok (GaveBack 1))) again)))))
 
 pub worked : WorkedBoard
-worked rule most files width lf lw s new bytes len =
+worked rule rules files width lf lw s new bytes len =
     let sh = fourBlocks rule files width in
     let s0 : State = fresh (s .board) (s .lower) in
     let new0 : New sh s0 = record { unplaced = λ f b. refl; untaken = λ p _. refl } in
     let same : Same sh s s0 = record { place = fun-ext (λ f. fun-ext (λ b. new .unplaced f b)); lower = λ f b _ _. refl; board = λ f b p _. refl } in
     ap (map (λ (t : Told). t .answer)) (same-run sh s s0 (sound-new sh s new) (sound-new sh s0 new0) same (workedCalls bytes) .0)
-    ∙ from-fresh rule most files width lf lw bytes len (s .board) (s .lower)
+    ∙ from-fresh rule (rules .most) files width lf lw bytes len (s .board) (s .lower)

@@ -7,5 +7,6 @@ pub mod Places
 pub mod Calls
 pub mod Twins
 pub mod Runs
+pub mod Room
 pub mod Board
 pub mod Pieces

@@ -23,7 +23,7 @@ use Rattle.calls.specs.declared.Granted.the-variants.{Wrote, Showed, GaveBack}
 use Rattle.calls.specs.declared.Source.{Source}
 use Rattle.calls.specs.declared.StoreFault.{StoreFault}
 use Rattle.calls.specs.declared.Written.the-variants.{Lower, Board}
-use Rattle.ledger.specs.Order.{takesBlock, overfullWith, groundsOf, refusalOn, refusalIn, onGround, RefusedInOrder, RefusedLeaves}
+use Rattle.ledger.specs.Order.{takesBlock, tooManyWith, groundsOf, refusalOn, refusalIn, onGround, RefusedInOrder, RefusedLeaves}
 use Rattle.ledger.specs.Store.{Shape, State, shown, own, mapFull, unless, overfull, takes, writes, freeFor, writeAnswer, readAnswer, source, placed, clears, clearAnswer, fileAnswer, ifGranted, asAny, answerTo, bufferAfter, stateAfter}
 
 -- ---- in order
@@ -40,7 +40,7 @@ module _ (sh : Shape) (s : State) (sent : List ℕ) where
   write-late : (file block mark : ℕ) (place free : Option ℕ)
       → refusalIn (asAny Wrote (writes sh (s .place) file block mark free place))
       ≡ onGround (Write file block mark) (cond (takesBlock place mark && not (isSome free)) (Some NoFreeBlock)
-      (cond (takesBlock place mark && overfullWith sh (s .place) file block free) (Some TooManyKeys) None))
+      (cond (takesBlock place mark && tooManyWith sh (s .place) file block free) (Some TooManyKeys) None))
   write-late file block mark (Some p) free = refl
   write-late file block mark None free = marked (eqb mark 0) free
     where
@@ -51,7 +51,7 @@ module _ (sh : Shape) (s : State) (sent : List ℕ) where
       marked : (v : Bool) (free : Option ℕ)
           → refusalIn (asAny Wrote (cond v (Ok Lower) (takes sh (s .place) file block free)))
           ≡ onGround (Write file block mark) (cond (not v && not (isSome free)) (Some NoFreeBlock)
-          (cond (not v && overfullWith sh (s .place) file block free) (Some TooManyKeys) None))
+          (cond (not v && tooManyWith sh (s .place) file block free) (Some TooManyKeys) None))
       marked true free = refl
       marked false None = refl
       marked false (Some p) = roomy p (overfull sh (changed (s .place) file (only block) (λ _. Some p)))

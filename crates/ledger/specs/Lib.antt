@@ -5,4 +5,5 @@ pub mod Order
 pub mod Where
 pub mod Book
 pub mod Promise
+pub mod Keys
 pub mod Worked

@@ -11,7 +11,7 @@ use Rattle.faults.specs.declared.Ground.{Ground}
 use Rattle.faults.specs.declared.Ground.the-variants.{Mark, File, Block, Length, Buffer, NoFreeBlock, TooManyKeys}
 use Rattle.faults.specs.declared.Layer.the-variants.{Map, Store}
 use Rattle.calls.specs.Answers.{Answer}
-use Rattle.ledger.specs.Store.{Shape, State, Ask, overfull, freeFor, told, next}
+use Rattle.ledger.specs.Store.{Shape, State, Ask, freeFor, told, next}
 use Rattle.calls.specs.declared.Call.{Call}
 use Rattle.calls.specs.declared.Call.the-variants.{Write, Read, Clear, Remove, Demote}
 use Rattle.calls.specs.declared.StoreFault.{StoreFault}
@@ -26,10 +26,10 @@ use Rattle.std.specs.declared.result.Result.the-variants.{Ok, Err}
 abbrev pub takesBlock : Option ℕ → ℕ → Bool
 takesBlock place mark = not (isSome place) && not (eqb mark 0)
 
--- whether the map, with the block at the board block that is free for it, calls for too many keys
-abbrev pub overfullWith : Shape → Placement → ℕ → ℕ → Option ℕ → Bool
-overfullWith sh pl file block (Some p) = overfull sh (changed pl file (only block) (λ _. Some p))
-overfullWith sh pl file block None = false
+-- whether the map calls for more keys than there is room for, with the block at the board block that is free for it
+abbrev pub tooManyWith : Shape → Placement → ℕ → ℕ → Option ℕ → Bool
+tooManyWith sh pl file block (Some p) = ltb (sh .keys) (sh .rule (changed pl file (only block) (λ _. Some p)))
+tooManyWith sh pl file block None = false
 
 -- The grounds of a call that brings a buffer of so many bytes.
 abbrev pub groundsOf : Shape → State → Call → ℕ → List (Bool × Ground)
@@ -39,7 +39,7 @@ groundsOf sh s (Write file block mark) len =
     ∷ (not (ltb block (sh .width)), Block)
     ∷ (not (eqb len 4096), Buffer)
     ∷ (takesBlock (s .place file block) mark && not (isSome (freeFor sh s file block)), NoFreeBlock)
-    ∷ (takesBlock (s .place file block) mark && overfullWith sh (s .place) file block (freeFor sh s file block), TooManyKeys)
+    ∷ (takesBlock (s .place file block) mark && tooManyWith sh (s .place) file block (freeFor sh s file block), TooManyKeys)
     ∷ []
 groundsOf sh s (Read file block) len =
     (not (ltb file (sh .files)), File)
@@ -50,7 +50,7 @@ groundsOf sh s (Clear file first n) len =
     (not (ltb file (sh .files)), File)
     ∷ (not (ltb first (sh .width)) || ltb (sh .width) (first + n), Block)
     ∷ (eqb n 0 || ltb 4096 n, Length)
-    ∷ (overfull sh (changed (s .place) file (inside first n) (λ _. None)), TooManyKeys)
+    ∷ (ltb (sh .keys) (sh .rule (changed (s .place) file (inside first n) (λ _. None))), TooManyKeys)
     ∷ []
 groundsOf sh s (Remove file) len = (not (ltb file (sh .files)), File) ∷ []
 groundsOf sh s (Demote file) len = (not (ltb file (sh .files)), File) ∷ []

@@ -1,13 +1,14 @@
 -- A worked case: a board of four blocks, and room for four keys.
-use Prim.Native.Nat.{ℕ, _<_, _≤_}
+use Prim.Native.Nat.{ℕ, _<_}
 use mathlib.Core.Path.{_≡_}
 use mathlib.Core.Bool.{true}
 use mathlib.Core.List.{List, [], _∷_, map}
 use lib.ListN.{length}
-use Rattle.blocks.specs.Blocks.{Placement, tally}
+use Rattle.blocks.specs.Blocks.{Placement}
 use Rattle.faults.specs.declared.Ground.the-variants.{NoFreeBlock}
 use Rattle.faults.specs.declared.Layer.the-variants.{Store}
 use Rattle.calls.specs.Answers.{Answer}
+use Rattle.ledger.specs.Keys.{KeyRule}
 use Rattle.ledger.specs.Sound.{New}
 use Rattle.ledger.specs.Store.{Shape, State, Ask, Told, outcome}
 use Rattle.calls.specs.declared.Call.the-variants.{Write, Clear}
@@ -56,9 +57,9 @@ workedAnswers =
     ∷ took 1
     ∷ []
 
--- So it goes from a new store on, under every key rule that gives a placement at most as many keys as it has mapped blocks.
+-- So it goes from a new store on, under every key rule.
 abbrev pub WorkedBoard : Type 0
-WorkedBoard = (rule : Placement → ℕ) → ((pl : Placement) → rule pl ≤ tally pl)
+WorkedBoard = (rule : Placement → ℕ) → KeyRule rule
     → (files width : ℕ) → 1 < files → 7 < width
     → (s : State) → New (fourBlocks rule files width) s
     → (bytes : List ℕ) → length bytes ≡ 4096

@@ -1,6 +1,7 @@
 //! The laws of a store, each the contract of a function that does nothing.
 
 ghost use Rattle.ledger.specs.Free.{FindsNearest};
+ghost use Rattle.ledger.specs.Keys.{KeysFit};
 ghost use Rattle.ledger.specs.Order.{RefusedInOrder, RefusedLeaves};
 ghost use Rattle.ledger.specs.Promise.{Promise};
 ghost use Rattle.ledger.specs.Where.{WritesWhere, ReadsWhere};
@@ -29,6 +30,11 @@ pub fn writes_where()
 /// Where the bytes of a granted read came from.
 pub fn reads_where()
     ensures { λ _. ⌜ ReadsWhere ⌝ }
+{}
+
+/// The map never calls for more keys than there is room for.
+pub fn keys_fit()
+    ensures { λ _. ⌜ KeysFit ⌝ }
 {}
 
 /// The board block that is taken is the first free one from the goal on, going round.

@@ -1,0 +1,12 @@
+pub mod Search
+pub mod Refusals
+pub mod Pool
+pub mod Steps
+pub mod Admits
+pub mod Places
+pub mod Calls
+pub mod Twins
+pub mod Runs
+pub mod Room
+pub mod Board
+pub mod Pieces

@@ -1,12 +1,12 @@
 -- The laws over whole lists, from any sound store and then from a new one.
 use Prim.Native.Nat.{_+_}
-use mathlib.Core.Path.{_≡_, refl, sym, ap, ap₂, subst, fun-ext, _∙_}
+use mathlib.Core.Path.{_≡_, refl, sym, ap, ap₂, subst, subst₂, fun-ext, _∙_}
 use mathlib.Core.List.{List, [], _∷_, _++_}
 use native.Mathlib.Omega.{arith}
 use Rattle.blocks.specs.Blocks.{Placement}
 use Rattle.blocks.proofs.Sums.{below-none}
 use Rattle.ledger.specs.Book.{Book, newBook, bookAfter, placesIn, blocksTaken, blocksGivenBack}
-use Rattle.ledger.specs.Promise.{ShowsBook, FullExactly, Along, Holds, Alike, Agree, Promise}
+use Rattle.ledger.specs.Promise.{ShowsBook, FullExactly, Along, Holds, TrueToBook, Alike, Agree, Promise}
 use Rattle.ledger.specs.Sound.{Sound, New}
 use Rattle.ledger.specs.Store.{Shape, State, Ask, Told, bytesAt, told, next, outcome, final}
 use Rattle.ledger.proofs.Calls.{bookOf, keeps, shows, full}
@@ -123,3 +123,10 @@ promise = record {
   agrees = λ sh sh′ s s′ new new′ qs qs′ later al.
       agree sh sh′ (final sh s qs) (final sh′ s′ qs′) (sound-final sh s (sound-new sh s new) qs) (sound-final sh′ s′ (sound-new sh′ s′ new′) qs′) al later;
 }
+
+-- One list after another, from a new store on.
+pub books-on : (sh : Shape) (s : State) → New sh s → (qs rs : List Ask)
+    → TrueToBook sh (s .lower) (qs ++ rs) (outcome sh s qs ++ outcome sh (final sh s qs) rs) (final sh (final sh s qs) rs .place)
+books-on sh s new qs rs =
+    subst₂ (λ (ts : List Told) (e : State). TrueToBook sh (s .lower) (qs ++ rs) ts (e .place))
+    (outcome-append sh s qs rs) (final-append sh s qs rs) (promise .books sh s new (qs ++ rs))

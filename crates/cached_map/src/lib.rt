@@ -1,0 +1,4 @@
+//! The last eight translations found, remembered over any map.
+
+pub mod cached;
+pub mod memory;

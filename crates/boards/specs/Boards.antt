@@ -1,15 +1,13 @@
 -- What a board's calls answer and leave.
-use Prim.Native.Nat.{ℕ, _+_, _-_, _*_, _/_, min}
+use Prim.Native.Nat.{ℕ, _+_, _-_, _/_, min}
 use mathlib.Core.Bool.{Bool, cond, not, _&&_}
 use mathlib.Core.Path.{_≡_}
 use mathlib.Core.List.{List, [], _∷_}
 use lib.Dec.{eqb, ltb, leb}
 use lib.ListN.{length}
-use Rattle.std.specs.declared.option.Option.{Option}
 use Rattle.std.specs.declared.result.Result.{Result}
 use Rattle.std.specs.Results.{isOk}
 use Rattle.faults.specs.declared.Fault.{Fault}
-use Rattle.faults.specs.declared.Ground.{Ground}
 use Rattle.faults.specs.declared.Ground.the-variants.{Buffer, BoardNumber}
 use Rattle.faults.specs.declared.Layer.the-variants.{Board}
 use Rattle.faults.specs.Grounds.{firstGround}
@@ -50,6 +48,7 @@ pub record ReplacesBlock (size : ℕ) (block : ℕ → List ℕ) (number : ℕ) 
 abbrev pub sizeIn : List ℕ → ℕ
 sizeIn memory = min (length memory / 4096) 4096
 
+-- what each of them holds, and nothing past the last
 abbrev pub blockIn : List ℕ → ℕ → List ℕ
 blockIn memory i = cond (ltb i (sizeIn memory)) (blockAt memory i) []
 
@@ -59,7 +58,7 @@ blockIn memory i = cond (ltb i (sizeIn memory)) (blockAt memory i) []
 abbrev pub joinedSize : ℕ → ℕ → ℕ
 joinedSize left right = min (left + right) 4096
 
--- those of the left board, then those of the right
+-- what they hold: the blocks of the left board, then those of the right, and nothing past the last
 abbrev pub joinedBlock : ℕ → (ℕ → List ℕ) → ℕ → (ℕ → List ℕ) → ℕ → List ℕ
 joinedBlock left lefts right rights i =
     cond (ltb i (joinedSize left right)) (cond (ltb i left) (lefts i) (rights (i - left))) []

@@ -1,11 +1,10 @@
 -- The blocks of a board in memory.
 use Prim.Native.Nat.{ℕ, _+_, _*_, _/_, _<_, _≤_, min}
 use mathlib.Core.Path.{_≡_, refl, sym, ap, fun-ext, _∙_}
-use mathlib.Core.Bool.{Bool, true, false, cond}
 use mathlib.Core.List.{List, []}
 use mathlib.Core.Logic.{_⊎_, inl, inr}
 use native.Mathlib.Omega.{arith}
-use lib.Dec.{eqb, ltb}
+use lib.Dec.{eqb}
 use lib.ListN.{length}
 use Rattle.std.proofs.shelf.Tests.{cond-true, cond-false, lt-ltb, le-ltb, eq-eqb, ne-eqb, cases-eq, cases-lt}
 use Rattle.memory.specs.Memory.{blockAt, overlaid}

@@ -1,15 +1,13 @@
 -- What a board's calls answer and leave.
-use Prim.Native.Nat.{ℕ, _+_, _-_, _*_, _/_, min}
-use mathlib.Core.Bool.{Bool, cond, not}
+use Prim.Native.Nat.{ℕ, _+_, _-_, _/_, min}
+use mathlib.Core.Bool.{Bool, cond, not, _&&_}
 use mathlib.Core.Path.{_≡_}
 use mathlib.Core.List.{List, [], _∷_}
-use lib.Dec.{eqb, ltb}
+use lib.Dec.{eqb, ltb, leb}
 use lib.ListN.{length}
-use Rattle.std.specs.declared.option.Option.{Option}
 use Rattle.std.specs.declared.result.Result.{Result}
 use Rattle.std.specs.Results.{isOk}
 use Rattle.faults.specs.declared.Fault.{Fault}
-use Rattle.faults.specs.declared.Ground.{Ground}
 use Rattle.faults.specs.declared.Ground.the-variants.{Buffer, BoardNumber}
 use Rattle.faults.specs.declared.Layer.the-variants.{Board}
 use Rattle.faults.specs.Grounds.{firstGround}
@@ -50,6 +48,7 @@ pub record ReplacesBlock (size : ℕ) (block : ℕ → List ℕ) (number : ℕ) 
 abbrev pub sizeIn : List ℕ → ℕ
 sizeIn memory = min (length memory / 4096) 4096
 
+-- what each of them holds, and nothing past the last
 abbrev pub blockIn : List ℕ → ℕ → List ℕ
 blockIn memory i = cond (ltb i (sizeIn memory)) (blockAt memory i) []
 
@@ -59,7 +58,23 @@ blockIn memory i = cond (ltb i (sizeIn memory)) (blockAt memory i) []
 abbrev pub joinedSize : ℕ → ℕ → ℕ
 joinedSize left right = min (left + right) 4096
 
--- those of the left board, then those of the right
+-- what they hold: the blocks of the left board, then those of the right, and nothing past the last
 abbrev pub joinedBlock : ℕ → (ℕ → List ℕ) → ℕ → (ℕ → List ℕ) → ℕ → List ℕ
 joinedBlock left lefts right rights i =
     cond (ltb i (joinedSize left right)) (cond (ltb i left) (lefts i) (rights (i - left))) []
+
+-- What a call leaves of the two boards, also behind the cut: of each its size, and the blocks that are given.
+pub record LeavesParts (leftSize : ℕ) (left : ℕ → List ℕ) (rightSize : ℕ) (right : ℕ → List ℕ)
+    (leftSizeAfter : ℕ) (leftAfter : ℕ → List ℕ) (rightSizeAfter : ℕ) (rightAfter : ℕ → List ℕ) : Type 0 where
+  pub left-size : leftSizeAfter ≡ leftSize
+  pub left-blocks : leftAfter ≡ left
+  pub right-size : rightSizeAfter ≡ rightSize
+  pub right-blocks : rightAfter ≡ right
+
+-- The left board's blocks after a write that is granted or not: it has the number if that is below its size.
+abbrev pub leftWritten : Bool → ℕ → (ℕ → List ℕ) → ℕ → List ℕ → ℕ → List ℕ
+leftWritten granted leftSize left number new = cond (granted && ltb number leftSize) (replaced left number new) left
+
+-- The right board's: it has the numbers from there on.
+abbrev pub rightWritten : Bool → ℕ → (ℕ → List ℕ) → ℕ → List ℕ → ℕ → List ℕ
+rightWritten granted leftSize right number new = cond (granted && leb leftSize number) (replaced right (number - leftSize) new) right

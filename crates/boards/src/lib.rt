@@ -8,7 +8,7 @@ ghost use lib.ListN.{length};
 ghost use denote.Ref.{now, name};
 ghost use Rattle.std.specs.Results.{isOk};
 ghost use Rattle.memory.specs.Memory.{overlaid};
-ghost use Rattle.boards.specs.Boards.{boardAnswer, ReadsBlock, ReplacesBlock, sizeIn, blockIn, joinedSize, joinedBlock};
+ghost use Rattle.boards.specs.Boards.{boardAnswer, ReadsBlock, ReplacesBlock, sizeIn, blockIn, joinedSize, joinedBlock, LeavesParts, leftWritten, rightWritten};
 use blocks::BLOCK_BYTES;
 use blocks::BOARD_BLOCKS;
 use faults::Fault;
@@ -16,6 +16,10 @@ use faults::Ground;
 use faults::Layer;
 
 /// A row of at most 4,096 blocks of 4,096 bytes.
+///
+/// Its meaning is its size and what each block holds. The contracts are promised of a board that is valid,
+/// as each is that was made by its maker over valid parts, and leave it valid.
+/// A question may leave notes in the board, so it takes `&mut self`; it leaves the meaning.
 pub trait Board {
     ghost valid: { Self → Type 0 };
 
@@ -150,7 +154,10 @@ pub impl<L: Board, R: Board> Board for JoinedBoard<L, R> as JoinedBoardBoard {
             .min(BOARD_BLOCKS)
     }
 
-    fn read(&mut self, number: u32, to: &mut [u8]) -> Result<(), Fault> {
+    fn read(&mut self, number: u32, to: &mut [u8]) -> Result<(), Fault>
+        ensures meaning { λ r. ⌜ (L·Board .valid (now (self .entry) .left) × R·Board .valid (now (self .entry) .right) → ReadsBlock (joinedSize (L·Board .size (now (self .entry) .left)) (R·Board .size (now (self .entry) .right))) (joinedBlock (L·Board .size (now (self .entry) .left)) (L·Board .block (now (self .entry) .left)) (R·Board .size (now (self .entry) .right)) (R·Board .block (now (self .entry) .right))) number (now (to .entry)) r (now (to .exit)) (joinedSize (L·Board .size (now (self .exit) .left)) (R·Board .size (now (self .exit) .right))) (joinedBlock (L·Board .size (now (self .exit) .left)) (L·Board .block (now (self .exit) .left)) (R·Board .size (now (self .exit) .right)) (R·Board .block (now (self .exit) .right))) (L·Board .valid (now (self .exit) .left) × R·Board .valid (now (self .exit) .right))) ⌝ }
+        ensures parts { λ _. ⌜ (L·Board .valid (now (self .entry) .left) × R·Board .valid (now (self .entry) .right) → LeavesParts (L·Board .size (now (self .entry) .left)) (L·Board .block (now (self .entry) .left)) (R·Board .size (now (self .entry) .right)) (R·Board .block (now (self .entry) .right)) (L·Board .size (now (self .exit) .left)) (L·Board .block (now (self .exit) .left)) (R·Board .size (now (self .exit) .right)) (R·Board .block (now (self .exit) .right))) ⌝ }
+    {
         admit(self.blocks(), number, to.len())?;
         let left = self.left.blocks();
         if number < left {
@@ -160,7 +167,10 @@ pub impl<L: Board, R: Board> Board for JoinedBoard<L, R> as JoinedBoardBoard {
         }
     }
 
-    fn write(&mut self, number: u32, from: &[u8]) -> Result<(), Fault> {
+    fn write(&mut self, number: u32, from: &[u8]) -> Result<(), Fault>
+        ensures meaning { λ r. ⌜ (L·Board .valid (now (self .entry) .left) × R·Board .valid (now (self .entry) .right) → ReplacesBlock (joinedSize (L·Board .size (now (self .entry) .left)) (R·Board .size (now (self .entry) .right))) (joinedBlock (L·Board .size (now (self .entry) .left)) (L·Board .block (now (self .entry) .left)) (R·Board .size (now (self .entry) .right)) (R·Board .block (now (self .entry) .right))) number (now (from .entry)) r (joinedSize (L·Board .size (now (self .exit) .left)) (R·Board .size (now (self .exit) .right))) (joinedBlock (L·Board .size (now (self .exit) .left)) (L·Board .block (now (self .exit) .left)) (R·Board .size (now (self .exit) .right)) (R·Board .block (now (self .exit) .right))) (L·Board .valid (now (self .exit) .left) × R·Board .valid (now (self .exit) .right))) ⌝ }
+        ensures parts { λ r. ⌜ (L·Board .valid (now (self .entry) .left) × R·Board .valid (now (self .entry) .right) → LeavesParts (L·Board .size (now (self .entry) .left)) (leftWritten (isOk r) (L·Board .size (now (self .entry) .left)) (L·Board .block (now (self .entry) .left)) number (now (from .entry))) (R·Board .size (now (self .entry) .right)) (rightWritten (isOk r) (L·Board .size (now (self .entry) .left)) (R·Board .block (now (self .entry) .right)) number (now (from .entry))) (L·Board .size (now (self .exit) .left)) (L·Board .block (now (self .exit) .left)) (R·Board .size (now (self .exit) .right)) (R·Board .block (now (self .exit) .right))) ⌝ }
+    {
         admit(self.blocks(), number, from.len())?;
         let left = self.left.blocks();
         if number < left {

@@ -10,6 +10,8 @@ use Rattle.blocks.specs.Blocks.{Contents, one}
 use Rattle.lowers.specs.Lowers.{Holds}
 use Rattle.carrying.specs.Carrying.{fileCarried, blocksCarried, differing}
 
+-- Below, Fs Ws src and Ft Wt tgt are what source and target meant at the start, fs ws s and ft wt t what they mean now.
+
 -- the blocks below `block` of a file are carried
 pub record FileGoing (Fs Ws : ℕ) (src : Contents) (Ft Wt : ℕ) (tgt : Contents)
     (fs ws : ℕ) (s : Contents) (VS : Type 0) (ft wt : ℕ) (t : Contents) (VT : Type 0) (file block carried : ℕ) : Type 0 where
@@ -29,5 +31,6 @@ pub record AllGoing (Fs Ws : ℕ) (src : Contents) (Ft Wt : ℕ) (tgt : Contents
   pub counts : carried ≡ min file (min Fs Ft) * min Ws Wt
   pub adds : carried + refused ≡ file * Ws
 
+-- one more byte compared
 pub differ-more : (n : ℕ) (left right : List ℕ) → differing (n + 1) left right ≡ one (not (eqb (getD left n 0) (getD right n 0))) + differing n left right
 differ-more n left right = ap (λ (k : ℕ). differing k left right) (add-one n)

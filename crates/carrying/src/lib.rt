@@ -1,7 +1,7 @@
 //! Carrying all that a reading side has to a lower store, and comparing bytes afterwards.
 
 ghost use mathlib.Core.Path.{_≡_};
-ghost use Prim.Native.Nat.{ℕ, _+_, _-_, _*_, _<_, _≤_, min};
+ghost use Prim.Native.Nat.{_+_, _-_, _*_, _<_, _≤_, min};
 ghost use lib.ListN.{length};
 ghost use denote.Ref.{now};
 ghost use Rattle.lowers.specs.Lowers.{Holds};

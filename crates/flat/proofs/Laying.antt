@@ -1,7 +1,7 @@
 -- Where the blocks of files lie in memory, and what a change of a part leaves of them.
 use Prim.Native.Nat.{ℕ, _+_, _-_, _*_, _/_, _<_, _≤_, min, zero-le}
 use mathlib.Core.Path.{_≡_, refl, sym, ap, fun-ext, _∙_}
-use mathlib.Core.Bool.{Bool, true, false, cond, _&&_}
+use mathlib.Core.Bool.{Bool, true, false, _&&_}
 use mathlib.Core.List.{List, []}
 use mathlib.Core.Logic.{_⊎_, inl, inr, ⊎-elim}
 use native.Mathlib.Omega.{arith}
@@ -11,7 +11,6 @@ use lib.ListN.{length, take, replicate}
 use Rattle.std.proofs.shelf.Bits.{mul-add-lt, mul-le, div-add-mod'}
 use Rattle.std.proofs.shelf.Lists.{take-all, take-replicate, drop-replicate, length-replicate}
 use Rattle.std.proofs.shelf.Tests.{cond-true, cond-false, cond-both, lt-ltb, and-from, and-parts, and-cases, both-ways, eqb-true, eqb-false, leb-true, leb-false, ltb-true, ltb-false, cases-order, cases-lt, cases-cond, le-leb}
-use Rattle.std.specs.declared.option.Option.{Option}
 use Rattle.std.specs.declared.option.Option.the-variants.{Some, None}
 use Rattle.blocks.specs.Blocks.{only, inside, changed, zeroBlock}
 use Rattle.blocks.proofs.Changes.{changed-here, changed-beside, changed-elsewhere}

@@ -13,6 +13,10 @@ use faults::Ground;
 use faults::Layer;
 
 /// The bytes of so many files of so many blocks, to be read.
+///
+/// Its meaning is how many files there are, how many blocks each has, and what each block of each file holds.
+/// The contracts are promised of a side that is valid, as each is that was made by its maker over valid parts, and leave it valid.
+/// A question may leave notes in the side, so it takes `&mut self`; it leaves the meaning.
 pub trait Reading {
     ghost valid: { Self → Type 0 };
 

@@ -1,3 +1,8 @@
+ghost use mathlib.Core.Path.{_≡_};
+ghost use mathlib.Core.Bool.{cond};
+ghost use Prim.Native.Nat.{_*_};
+ghost use Rattle.std.specs.Results.{isOk};
+ghost use Rattle.memory.specs.Memory.{overlaid};
 use blocks::BLOCK_BYTES;
 use boards::Board;
 use boards::JoinedBoard;
@@ -25,6 +30,14 @@ fn read<B: Board>(board: &mut B, number: u32) -> (u32, u8) {
 /// What a write of a block of ones tells.
 fn write<B: Board>(board: &mut B, number: u32) -> (u32, u32) {
     refusal(board.write(number, &[1u8; BLOCK_BYTES]))
+}
+
+/// Lends the memory to a board for one write: every byte of it is known afterwards.
+fn write_to(memory: &mut [u8], number: u32, from: &[u8]) -> Result<(), Fault>
+    ensures { λ r. ⌜ now (memory .exit) ≡ cond (isOk r) (overlaid (now (memory .entry)) (number * 4096) (now (from .entry))) (now (memory .entry)) ⌝ }
+{
+    let mut board = MemoryBoard::new(memory);
+    board.write(number, from)
 }
 
 /// The bytes around the start and around the end of a block.

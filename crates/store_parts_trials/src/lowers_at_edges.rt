@@ -1,3 +1,10 @@
+ghost use mathlib.Core.Path.{_≡_};
+ghost use mathlib.Core.Bool.{cond};
+ghost use Prim.Native.Nat.{_*_};
+ghost use lib.ListN.{replicate};
+ghost use Rattle.std.specs.Results.{isOk};
+ghost use Rattle.memory.specs.Memory.{overlaid};
+ghost use Rattle.flat.specs.Flat.{widthOf, indexOf};
 use blocks::BLOCK_BYTES;
 use faults::Fault;
 use flat::FlatStore;
@@ -28,6 +35,14 @@ fn read<S: Reading>(side: &mut S, file: u32, block: u32) -> (u32, u8) {
 /// What a write of a block of ones tells.
 fn write<T: Lower>(store: &mut T, file: u32, block: u32) -> u32 {
     ground(store.write(file, block, &[1u8; BLOCK_BYTES]))
+}
+
+/// Lends the memory to a flat store for one clear: every byte of it is known afterwards.
+fn clear_in(memory: &mut [u8], width: u32, file: u32, first: u32, n: u32) -> Result<(), Fault>
+    ensures { λ r. ⌜ now (memory .exit) ≡ cond (isOk r) (overlaid (now (memory .entry)) (indexOf (widthOf width) file first * 4096) (replicate (n * 4096) 0)) (now (memory .entry)) ⌝ }
+{
+    let mut store = FlatStore::new(memory, width);
+    store.clear(file, first, n)
 }
 
 #[test]

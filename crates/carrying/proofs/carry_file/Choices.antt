@@ -1,5 +1,4 @@
-use Prim.Native.Nat.{_≤_, min}
-use mathlib.Core.Path.{_≡_}
+use Prim.Native.Nat.{_≤_}
 use Rattle.carrying.proofs.Steps.{FileGoing}
 use Rattle.carrying.proofs.carry_file.Given as given
 

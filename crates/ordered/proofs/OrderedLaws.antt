@@ -1,9 +1,9 @@
 -- What each change of rising rows means.
-use Prim.Native.Nat.{ℕ, zero, suc, _+_, _-_, _*_, _<_, _≤_}
+use Prim.Native.Nat.{ℕ, _+_, _-_, _<_, _≤_}
 use mathlib.Core.Path.{_≡_, refl, sym, ap, subst, _∙_}
 use mathlib.Core.Bool.{true, false, not}
-use mathlib.Core.List.{List, [], _∷_}
-use mathlib.Core.Logic.{_⊎_, inl, inr, _≢_}
+use mathlib.Core.List.{List, []}
+use mathlib.Core.Logic.{inl, inr, _≢_}
 use native.Mathlib.Omega.{arith}
 use lib.ListN.{length, getD, set, length-set}
 use lib.Seq.{getD-set-same, getD-set-other}
@@ -14,11 +14,11 @@ use Rattle.std.specs.declared.option.Option.the-variants.{Some, None}
 use Rattle.std.proofs.shelf.Tests.{cases-eq, cases-lt, cases-order}
 use Rattle.std.proofs.shelf.Edits.{length-inserted, length-removed, getD-inserted-below, getD-inserted-at, getD-inserted-above, getD-removed-below, getD-removed-above}
 use Rattle.blocks.specs.declared.Entry.{Entry}
-use Rattle.blocks.specs.Blocks.{changed, only, one, tally}
+use Rattle.blocks.specs.Blocks.{changed, only, one}
 use Rattle.blocks.proofs.Sums.{tally-none}
 use Rattle.tables.specs.declared.row.Row.{Row}
-use Rattle.tables.specs.Holding.{Holding, Numbered, full, lowestRow}
-use Rattle.tables.specs.Rows.{blank, Good, says, first}
+use Rattle.tables.specs.Holding.{Numbered, full, lowestRow}
+use Rattle.tables.specs.Rows.{blank, Good, says}
 use Rattle.tables.proofs.Lowest.{lowest-none, lowest-some}
 use Rattle.tables.proofs.Looks.{first-none, first-past, first-only, first-set, first-inserted, first-removed, first-some, says-here, says-none, says-key, changed-by, tally-by, room-old, room-new, no-room}
 use Rattle.ordered.specs.Ordered.{lookup, rank, rankAt, Rising, Sound, Stands, Hit, Miss}

@@ -1,19 +1,17 @@
 -- How a hole is closed in one pass.
-use Prim.Native.Nat.{ℕ, zero, suc, _+_, _-_, _<_, _≤_}
+use Prim.Native.Nat.{ℕ, _+_, _<_, _≤_}
 use mathlib.Core.Path.{_≡_, refl, sym, ap, subst, fun-ext, _∙_}
 use mathlib.Core.Bool.{Bool, true, false, cond}
 use mathlib.Core.List.{List}
 use mathlib.Core.Logic.{_⊎_, inl, inr, _≢_}
 use native.Mathlib.Omega.{arith}
 use lib.Dec.{eqb}
-use lib.ListN.{length, getD, set, length-set}
-use Rattle.std.specs.declared.option.Option.{Option}
+use lib.ListN.{length, set, length-set}
 use Rattle.std.specs.declared.option.Option.the-variants.{Some, None}
 use Rattle.std.proofs.shelf.Tests.{cases-eq, cases-lt, both-ways, cond-true, cond-false, eq-eqb, ne-eqb}
-use Rattle.tables.specs.Holding.{Holding}
 use Rattle.tables.proofs.Looks.{first-set}
 use Rattle.probing.specs.declared.slots.Slot.{Slot}
-use Rattle.probing.specs.Slots.{free, slotAt, Used, tells, look, bit, occupied, Has, dist, homeOf, Passes, Single, Reached, Closed}
+use Rattle.probing.specs.Slots.{free, slotAt, Used, tells, look, bit, occupied, dist, homeOf, Passes, Single, Reached, Closed}
 use Rattle.probing.proofs.Distances.{dist-lt, dist-inj, dist-self, between, around}
 use Rattle.probing.proofs.SlotLaws.{keyed, tells-none, tells-other, used-within, look-found, occupied-set, bit-free, at-same, at-other, use-of, has-of, across}
 

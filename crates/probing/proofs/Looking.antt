@@ -1,15 +1,15 @@
 -- How many slots a search looks at.
-use Prim.Native.Nat.{ℕ, zero, suc, _+_, _-_, _<_, _≤_}
+use Prim.Native.Nat.{ℕ, zero, suc, _+_, _<_, _≤_}
 use mathlib.Core.Path.{_≡_, refl, sym, ap, _∙_}
-use mathlib.Core.Bool.{Bool, true, false, cond, not, _&&_, _||_}
+use mathlib.Core.Bool.{Bool, true, false, not, _&&_}
 use mathlib.Core.List.{List}
-use mathlib.Core.Logic.{_⊎_, inl, inr}
+use mathlib.Core.Logic.{inl, inr}
 use native.Mathlib.Omega.{arith}
 use lib.Dec.{eqb}
 use Rattle.std.proofs.shelf.Tests.{cases-eq, cond-true, cond-false, not-from-true, not-from-false, or-from, or-left, or-right, and-from, and-left, and-right, eq-eqb, ne-eqb}
 use Rattle.probing.specs.declared.slots.Slot.{Slot}
 use Rattle.probing.specs.declared.slots.Probe.the-variants.{Found, Free, Full}
-use Rattle.probing.specs.Slots.{slotAt, Used, Has, dist, Passed, Probed, tried, onto, ends, looked}
+use Rattle.probing.specs.Slots.{slotAt, Has, dist, Passed, Probed, tried, onto, ends, looked}
 use Rattle.probing.proofs.Distances.{onto-in, dist-onto, onto-dist, dist-lt}
 
 tried-at : (t : ℕ → Bool) (m j : ℕ) → j < m → ((i : ℕ) → i < j → t i ≡ false) → t j ≡ true → tried t m ≡ j + 1

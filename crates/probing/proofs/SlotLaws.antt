@@ -1,26 +1,20 @@
 -- What each change of one slot means.
-use Prim.Native.Nat.{ℕ, zero, suc, _+_, _-_, _<_, _≤_}
-use mathlib.Core.Path.{_≡_, refl, sym, ap, subst, fun-ext, _∙_}
-use mathlib.Core.Bool.{Bool, true, false, cond, not}
+use Prim.Native.Nat.{ℕ, zero, suc, _+_, _<_, _≤_}
+use mathlib.Core.Path.{_≡_, refl, sym, ap, _∙_}
+use mathlib.Core.Bool.{true, false}
 use mathlib.Core.List.{List, [], _∷_, _++_}
 use mathlib.Core.Logic.{_⊎_, inl, inr, _≢_}
 use native.Mathlib.Omega.{arith}
-use lib.ListN.{length, getD, set, length-set}
+use lib.ListN.{length, set, length-set}
 use lib.Seq.{getD-set-same, getD-set-other}
-use Rattle.std.specs.Options.{isSome}
-use Rattle.std.specs.declared.option.Option.{Option}
 use Rattle.std.specs.declared.option.Option.the-variants.{Some, None}
 use Rattle.std.proofs.shelf.Lists.{getD-past}
-use Rattle.std.proofs.shelf.Tests.{cases-eq, cases-lt, cases-order, cases-bool, both-ways}
+use Rattle.std.proofs.shelf.Tests.{cases-eq, cases-lt, cases-bool, both-ways}
 use Rattle.blocks.specs.declared.Entry.{Entry}
 use Rattle.blocks.specs.Blocks.{changed, only}
-use Rattle.tables.specs.declared.row.Row.{Row}
-use Rattle.tables.specs.Holding.{Holding}
-use Rattle.tables.specs.Rows.{says, first}
 use Rattle.tables.proofs.Looks.{first-none, first-only, first-set, says-here, says-none, changed-by}
 use Rattle.probing.specs.declared.slots.Slot.{Slot}
-use Rattle.probing.specs.declared.slots.Probe.the-variants.{Found, Free, Full}
-use Rattle.probing.specs.Slots.{free, slotAt, Used, tells, look, bit, occupied, Has, Single, homeOf, Passes, Passed}
+use Rattle.probing.specs.Slots.{free, slotAt, Used, tells, look, bit, occupied, Has, Single}
 
 pub keyed : (f b : ℕ) (s : Slot) → Has f b s ⊎ (Has f b s → ⊥)
 keyed f b s = elim (cases-eq (s .row .file) f) [

@@ -1,29 +1,29 @@
 -- What each call does to the slots of a table.
-use Prim.Native.Nat.{ℕ, zero, suc, _+_, _-_, _<_, _≤_}
+use Prim.Native.Nat.{ℕ, _+_, _-_, _<_, _≤_}
 use mathlib.Core.Path.{_≡_, refl, sym, ap, subst, fun-ext, _∙_}
-use mathlib.Core.Bool.{Bool, true, false, cond, not}
+use mathlib.Core.Bool.{true, false, cond, not}
 use mathlib.Core.List.{List}
-use mathlib.Core.Logic.{_⊎_, inl, inr, _≢_}
+use mathlib.Core.Logic.{inl, inr, _≢_}
 use native.Mathlib.Omega.{arith}
 use lib.Dec.{eqb}
-use lib.ListN.{length, getD, set, length-set}
+use lib.ListN.{length, set, length-set}
 use Rattle.std.specs.Options.{isSome}
 use Rattle.std.specs.declared.option.Option.{Option}
 use Rattle.std.specs.declared.option.Option.the-variants.{Some, None}
 use Rattle.std.proofs.shelf.Tests.{cases-eq, cases-lt, cases-order, both-ways, cond-true, cond-false, eq-eqb, ne-eqb}
 use Rattle.blocks.specs.declared.Entry.{Entry}
-use Rattle.blocks.specs.Blocks.{changed, only, one, tally}
+use Rattle.blocks.specs.Blocks.{changed, only, one}
 use Rattle.blocks.proofs.Sums.{tally-none}
 use Rattle.tables.specs.declared.row.Row.{Row}
-use Rattle.tables.specs.Holding.{Holding, Numbered, nothing, full, lowestRow}
+use Rattle.tables.specs.Holding.{nothing, full, lowestRow}
 use Rattle.tables.proofs.Lowest.{lowest-none, lowest-some}
 use Rattle.tables.proofs.Looks.{first-set, changed-by, tally-by, numbered-by, room-old, room-new, no-room}
 use Rattle.probing.specs.declared.slots.Slot.{Slot}
 use Rattle.probing.specs.declared.slots.Probe.{Probe}
 use Rattle.probing.specs.declared.slots.Probe.the-variants.{Found, Free, Full}
-use Rattle.probing.specs.Slots.{free, slotAt, Used, tells, look, bit, occupied, Has, dist, Passed, Probed, Within, Best, Wanted, homeOf, Passes, Single, Reached, Sound, Closed}
+use Rattle.probing.specs.Slots.{free, slotAt, Used, tells, look, occupied, Has, dist, Probed, Within, Best, homeOf, Passes, Reached, Sound, Closed}
 use Rattle.probing.proofs.Distances.{dist-inj}
-use Rattle.probing.proofs.SlotLaws.{tells-none, tells-other, used-within, look-found, look-none, occupied-set, bit-used, bit-free, occupied-all, occupied-free, occupied-none, at-same, at-other, use-of, has-of, set-single, fill-after}
+use Rattle.probing.proofs.SlotLaws.{tells-other, used-within, look-found, look-none, occupied-set, bit-used, bit-free, occupied-all, occupied-free, occupied-none, at-same, at-other, use-of, has-of, set-single, fill-after}
 
 -- ---- a search
 

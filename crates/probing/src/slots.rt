@@ -26,6 +26,22 @@ pub struct Slot {
 }
 
 impl Slot {
+    fn empty() -> Slot
+        ensures { λ r. ⌜ r ≡ free ⌝ }
+    {
+        Slot {
+            used: false,
+            row: Row {
+                file: 0,
+                block: 0,
+                entry: Entry {
+                    length: 0,
+                    board: 0,
+                },
+            },
+        }
+    }
+
     pub fn fill(&mut self, row: Row)
         ensures { λ _. ⌜ now (self .exit) ≡ record { used = true; row = row } ⌝ }
     {
@@ -36,15 +52,7 @@ impl Slot {
     pub fn clear(&mut self)
         ensures { λ _. ⌜ now (self .exit) ≡ free ⌝ }
     {
-        self.used = false;
-        self.row = Row {
-            file: 0,
-            block: 0,
-            entry: Entry {
-                length: 0,
-                board: 0,
-            },
-        };
+        *self = Slot::empty();
     }
 }
 
@@ -92,17 +100,7 @@ impl Slots {
     {
         let mut slots = Vec::with_capacity(heap, n as usize)?;
         for i in 0..n as usize {
-            slots.push_reserved(Slot {
-                used: false,
-                row: Row {
-                    file: 0,
-                    block: 0,
-                    entry: Entry {
-                        length: 0,
-                        board: 0,
-                    },
-                },
-            });
+            slots.push_reserved(Slot::empty());
         }
         Ok(Slots { slots })
     }

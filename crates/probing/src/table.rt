@@ -6,7 +6,8 @@ ghost use Prim.Native.Nat.{ℕ, _<_, min};
 ghost use Rattle.std.specs.Of.Vec.{vec-items, vec-len};
 ghost use Rattle.std.specs.Vec.{made};
 ghost use Rattle.tables.specs.Holding.{nothing};
-ghost use Rattle.probing.specs.Slots.{look, slotAt, looked, Sound, Closed};
+ghost use Rattle.probing.specs.Slots.{slotAt, Closed};
+ghost use Rattle.probing.specs.Probing.{Valid, holdingOf, lookedIn};
 use crate::slots::*;
 use blocks::Entry;
 use std::alloc::AllocError;
@@ -30,7 +31,7 @@ impl<S: Spread> ProbingTable<S> {
     pub fn new(heap: Global, n: u32, spread: S) -> Result<ProbingTable<S>, AllocError>
     where
         S: Drop,
-        ensures { λ r. ⌜ made r (λ t. Sound (λ f b. S·Spread .place (t .spread) f b (t .room)) (t .room) (vec-items (t .slots .slots)) (t .held) × (look (vec-items (t .slots .slots)) ≡ nothing) × (t .room ≡ min n 2048)) ⌝ }
+        ensures { λ r. ⌜ made r (λ t. Valid (S·Spread .place) t × (holdingOf t ≡ nothing) × (t .room ≡ min n 2048)) ⌝ }
     {
         let room = n.min(2048);
         let slots = Slots::new(heap, room)?;
@@ -44,7 +45,7 @@ impl<S: Spread> ProbingTable<S> {
 
     /// How many rows a look-up of a key looks at.
     pub fn rows_looked_at(&self, file: u16, block: u16) -> usize
-        ensures { λ r. ⌜ (Sound (λ f b. S·Spread .place (now (self .entry) .spread) f b (now (self .entry) .room)) (now (self .entry) .room) (vec-items (now (self .entry) .slots .slots)) (now (self .entry) .held) → r ≡ looked (now (self .entry) .room) (vec-items (now (self .entry) .slots .slots)) (S·Spread .place (now (self .entry) .spread) file block (now (self .entry) .room)) file block) ⌝ }
+        ensures { λ r. ⌜ (Valid (S·Spread .place) (now (self .entry)) → r ≡ lookedIn (S·Spread .place) (now (self .entry)) file block) ⌝ }
     {
         let home = self.spread.place_of(file, block, self.room);
         self.slots.looked(home as usize, file, block)
@@ -77,9 +78,9 @@ fn close<S: Spread>(slots: &mut Slots, spread: &S, room: u32, start: usize)
 }
 
 pub impl<S: Spread> Table for ProbingTable<S> as ProbingTableTable {
-    ghost valid = { λ t. Sound (λ f b. S·Spread .place (t .spread) f b (t .room)) (t .room) (vec-items (t .slots .slots)) (t .held) };
+    ghost valid = { Valid (S·Spread .place) };
 
-    ghost holding = { λ t. look (vec-items (t .slots .slots)) };
+    ghost holding = { holdingOf };
 
     ghost places = { λ t. t .room };
 

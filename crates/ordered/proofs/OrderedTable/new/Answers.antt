@@ -1,7 +1,5 @@
-use mathlib.Core.Path.{refl, ap}
-use mathlib.Core.List.{List}
+use mathlib.Core.Path.{ap}
 use native.Mathlib.Omega.{arith}
-use Rattle.tables.specs.declared.row.Row.{Row}
 use Rattle.ordered.specs.Ordered.{lookup}
 use Rattle.ordered.proofs.OrderedLaws.{empty-sound}
 use Rattle.ordered.proofs.OrderedTable.new.Needs as need

@@ -1,7 +1,6 @@
-use Prim.Native.Nat.{ℕ, _<_, _≤_}
+use Prim.Native.Nat.{_<_}
 use mathlib.Core.Path.{_≡_, refl, sym, ap, _∙_}
 use mathlib.Core.Bool.{Bool, true, cond}
-use mathlib.Core.List.{List}
 use native.Mathlib.Omega.{arith}
 use lib.ListN.{length}
 use Rattle.std.specs.Holes.{inserted}
@@ -9,7 +8,6 @@ use Rattle.std.specs.Of.Vec.{vec-items, vec-cap}
 use Rattle.std.specs.declared.option.Option.the-variants.{Some}
 use Rattle.blocks.specs.Blocks.{changed, only}
 use Rattle.tables.specs.declared.row.Row.{Row}
-use Rattle.tables.specs.Holding.{Holding}
 use Rattle.ordered.specs.Ordered.{lookup, Sound}
 use Rattle.ordered.proofs.OrderedLaws.{set-after, set-sound, insert-after, insert-sound, room-hit, room-miss, full-miss}
 use Rattle.ordered.proofs.OrderedTableTable.store.Needs as need

@@ -1,12 +1,11 @@
-use Prim.Native.Nat.{ℕ, _+_, _<_, _≤_}
+use Prim.Native.Nat.{ℕ, _<_}
 use mathlib.Core.Path.{_≡_, sym, ap, subst, _∙_}
-use mathlib.Core.Bool.{false}
 use mathlib.Core.Logic.{inl, inr}
 use native.Mathlib.Omega.{arith}
-use Rattle.std.specs.Of.Vec.{vec-items, vec-len}
+use Rattle.std.specs.Of.Vec.{vec-items}
 use Rattle.std.proofs.shelf.Tests.{not-true, not-false}
 use Rattle.probing.specs.declared.slots.Slot.{Slot}
-use Rattle.probing.specs.Slots.{dist, homeOf, Passes, slotAt, Closed}
+use Rattle.probing.specs.Slots.{dist, Closed}
 use Rattle.probing.proofs.Closing.{Next, turn-moved, turn-stayed, turn-last}
 use Rattle.probing.proofs.table.close.Given as given
 use Rattle.probing.proofs.table.close.Needs as need

@@ -1,10 +1,10 @@
-use Prim.Native.Nat.{ℕ, _+_, _<_, _≤_}
-use mathlib.Core.Path.{_≡_, sym, ap, _∙_}
+use Prim.Native.Nat.{ℕ, _+_, _<_}
+use mathlib.Core.Path.{ap, _∙_}
 use mathlib.Core.Logic.{inl, inr}
 use native.Mathlib.Omega.{arith}
 use Rattle.std.specs.Of.Vec.{vec-items, vec-len}
 use Rattle.std.proofs.shelf.Tests.{cases-lt}
-use Rattle.probing.specs.Slots.{dist, looked}
+use Rattle.probing.specs.Slots.{dist}
 use Rattle.probing.proofs.Looking.{looked-found, looked-free, looked-full, looked-none}
 use Rattle.probing.proofs.slots.Slots.looked.Needs as need
 

@@ -1,7 +1,7 @@
-use Prim.Native.Nat.{ℕ, _-_, _<_}
-use mathlib.Core.Path.{_≡_, refl, sym, ap, subst, _∙_}
+use Prim.Native.Nat.{ℕ}
+use mathlib.Core.Path.{refl, sym, subst}
 use native.Mathlib.Omega.{arith}
-use lib.ListN.{length, set}
+use lib.ListN.{set}
 use Rattle.std.specs.Of.Vec.{vec-items, vec-len}
 use Rattle.probing.specs.declared.slots.Slot.{Slot}
 use Rattle.probing.specs.declared.slots.Probe.the-variants.{Found, Free, Full}

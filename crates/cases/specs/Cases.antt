@@ -8,6 +8,8 @@ use Rattle.std.specs.declared.option.Option.the-variants.{Some}
 use Rattle.blocks.specs.Blocks.{inside}
 use Rattle.extents.specs.Extents.{FileMap, key, path}
 use Rattle.extents.specs.Runs.{runMap, ListsKeys}
+use Rattle.ledger.specs.Worked.{WorkedBoard}
+use Rattle.tables.specs.Spreads.{mixed}
 
 -- the map with one run more: the n blocks from `first` at the board numbers from p
 abbrev pub andRun : FileMap → ℕ → ℕ → ℕ → FileMap
@@ -26,6 +28,14 @@ pub record Joining : Type 0 where
   pub left-later : ListsKeys (andRun (runMap 3 8 103) 0 3 100) (key 0 8 100 ∷ key 8 2 108 ∷ key 10 1 110 ∷ [])
   pub left-first : ListsKeys (andRun (runMap 0 3 100) 3 8 103) (key 0 8 100 ∷ key 8 2 108 ∷ key 10 1 110 ∷ [])
 
+-- The mixing spread puts block 1 of file 0 at place 1,591 of 2,048.
+abbrev pub Mixing : Type 0
+Mixing = mixed 0 1 2048 ≡ 1591
+
+-- The list of worked cases.
 pub record Worked : Type 0 where
   pub paths : Paths
   pub joining : Joining
+  -- a board of four blocks, filled and filled again
+  pub board : WorkedBoard
+  pub mixing : Mixing

@@ -20,6 +20,9 @@ mod tests {
     use extents::run::RunErrorDebug;
     use extents::run::keys_of_run;
     use std::test::*;
+    use tables::spread::Mixing;
+    use tables::spread::MixingSpread;
+    use tables::spread::Spread;
 
     const PATHS: [(u32, [u32; 4], u32); 4] = [
         (7, [7, 6, 4, 0], 4),
@@ -38,6 +41,7 @@ mod tests {
                 check_eq(path_key(block, k), starts[k as usize])?;
             }
         }
+        check_eq(Mixing.place_of(0, 1, 2048), 1591)?;
         let keys = keys_of_run(rt.alloc(), 3, 8, 103)?;
         check_eq(
             keys.as_slice(),

@@ -1,5 +1,7 @@
+use mathlib.Core.Path.{refl}
+use Rattle.ledger.proofs.Board.{worked}
 use Rattle.cases.proofs.Extents.{paths, joining}
 use Rattle.cases.proofs.worked_cases.Needs as need
 
 pub returns : need.returns
-returns c = record { paths = paths; joining = joining }
+returns c = record { paths = paths; joining = joining; board = worked; mixing = refl }

@@ -6,10 +6,16 @@ use mathlib.Core.Logic.{_⊎_, inl, inr}
 use native.Mathlib.Omega.{arith}
 use lib.Dec.{eqb}
 use lib.ListN.{length}
+use Rattle.std.specs.declared.result.Result.the-variants.{Ok}
+use Rattle.std.proofs.shelf.Ways.{tells}
 use Rattle.std.proofs.shelf.Tests.{cond-true, cond-false, lt-ltb, le-ltb, eq-eqb, ne-eqb, cases-eq, cases-lt}
 use Rattle.memory.specs.Memory.{blockAt, overlaid}
 use Rattle.memory.proofs.Overlays.{length-overlaid, length-block, block-here, block-beside}
-use Rattle.boards.specs.Boards.{sizeIn, blockIn, replaced}
+use Rattle.boards.specs.Boards.{boardAnswer, sizeIn, blockIn, replaced}
+
+-- what a granted call brings
+pub granted : (size number buffer : ℕ) → Ok tt ≡ boardAnswer size number buffer → (number < size) × (buffer ≡ 4096)
+granted size number buffer e = (grind (arith, tells), grind (arith, tells))
 
 pub fits-in : (memory : List ℕ) (i : ℕ) → i < sizeIn memory → i * 4096 + 4096 ≤ length memory
 fits-in memory i l = omega arith

@@ -6,7 +6,7 @@ use lib.ListN.{length}
 use Rattle.memory.specs.Memory.{overlaid}
 use Rattle.memory.proofs.Overlays.{overlaid-put}
 use Rattle.boards.specs.Boards.{sizeIn, blockIn}
-use Rattle.boards.proofs.InMemory.{same-size-in, replaced-in}
+use Rattle.boards.proofs.InMemory.{granted, same-size-in, replaced-in}
 use Rattle.boards.proofs.MemoryBoardBoard.write.Needs as need
 
 pub returns : need.returns
@@ -16,8 +16,9 @@ returns c =
     let number = c .args .number in
     let e = c .copy-from-slice .ensures .after in
     let n = ap length e in
-    let within : number < sizeIn memory = search needs in
-    let whole : length new ≡ 4096 = omega arith in
+    let brought = granted (c .blocks-2 .result) number (length new) (c .in-Continue-admit .ensures tt) in
+    let within : number < sizeIn memory = omega (arith, c .blocks-2 .ensures .answer tt) in
+    let whole = brought .1 in
     let written =
     overlaid-put memory (c .copy-from-slice .last .self) (number * 4096) ((number * 4096 + 4096) - number * 4096) (omega arith)
     ∙ ap (overlaid memory (number * 4096)) e in

@@ -1,0 +1,1 @@
+//! What the console prints for a text, as definitions and laws.

@@ -55,14 +55,8 @@ pub fn assign_ground(file: u32, first: u32, n: u32, board: u32) -> Option<Ground
     ensures answer { λ r. ⌜ r ≡ assignGround file first n board ⌝ }
     ensures range { λ r. ⌜ Assignable r file first n board ⌝ }
 {
-    if file > 65535 {
-        return Some(Ground::File);
-    }
-    if first > 65535 || n > 65536 - first {
-        return Some(Ground::Block);
-    }
-    if n == 0 || n > 4096 {
-        return Some(Ground::Length);
+    if let Some(ground) = extent_ground(file, first, n) {
+        return Some(ground);
     }
     if board > 4096 - n {
         return Some(Ground::BoardNumber);

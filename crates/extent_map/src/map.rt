@@ -30,9 +30,9 @@ impl<T: Table> ExtentMap<T> {
         ensures placed { λ r. ⌜ (T·Table .valid table → placing (T·Table .holding (r .table)) ≡ nowhere) ⌝ }
         ensures room { λ r. ⌜ T·Table .places (r .table) ≡ T·Table .places table ⌝ }
     {
-        let mut table = table;
-        table.empty();
-        ExtentMap { table }
+        let mut map = ExtentMap { table };
+        map.table.empty();
+        map
     }
 
     /// Looks a block up along its path, and tells how many keys were tried.

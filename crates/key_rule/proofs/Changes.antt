@@ -184,6 +184,12 @@ assign-mending m file first n board l p r lf ln lo hi level free left right = re
     bar-right : Barrier (assigned m file first n board file) r
     bar-right = barrier-right (assigned m file first n board file) r (p + (r - 1 - l)) (omega arith) before-right (edge-right (right .edge))
 
+-- the end of an unmapped extent
+pub after-extent : (m : FileMap) (first n : ℕ) → 0 < n → None ≡ lowestMapped m first n → Barrier m (first + n)
+after-extent m first n o free =
+    let e : first + (n - 1) + 1 ≡ first + n = omega arith in
+    subst (Barrier m) e (barrier-after m (first + (n - 1)) (lowest-free m first n free (n - 1) (omega arith)))
+
 -- ---- what is kept
 
 pub held-cleared : (h : Holding) → Held h → (file first n : ℕ) → Held (keyed (cleared (placing h) file first n))

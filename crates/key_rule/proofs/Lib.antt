@@ -6,3 +6,4 @@ pub mod Edges
 pub mod Mends
 pub mod Changes
 pub mod Outcomes
+pub mod Worked

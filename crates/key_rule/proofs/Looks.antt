@@ -1,17 +1,16 @@
 -- What a table says that holds the keys of what is read from it.
 use mathlib.Core.Path.{_≡_, refl, sym, ap, subst, _∙_}
 use mathlib.Core.Logic.{_⊎_, inl, inr}
-use mathlib.Core.Bool.{Bool, true, false, cond}
+use mathlib.Core.Bool.{false}
 use mathlib.Core.List.{List, [], _∷_}
 use Prim.Native.Nat.{ℕ, zero, suc, _+_, _-_, _*_, _%_, _^_, _≤_, _<_}
 use native.Mathlib.Omega.{arith}
 use lib.Pow.{pow-pos}
-use Rattle.std.proofs.shelf.Tests.{cases-lt, cond-true, cond-false}
+use Rattle.std.proofs.shelf.Tests.{cases-lt, cond-false}
 use Rattle.std.specs.declared.option.Option.{Option}
 use Rattle.std.specs.declared.option.Option.the-variants.{Some, None}
 use Rattle.blocks.specs.Blocks.{inside}
 use Rattle.blocks.specs.declared.Entry.{Entry}
-use Rattle.blocks.proofs.Changes.{inside-yes, inside-after}
 use Rattle.extents.specs.declared.key.Key.{Key}
 use Rattle.extents.specs.Extents.{FileMap, KeyTable, entry, key, IsKey, path, heldAt, firstHeld, says, lookup, keyAt}
 use Rattle.extents.proofs.Found.{keyAt-keys}
@@ -86,6 +85,6 @@ module _ (h : Holding) (v : Held h) (f b : ℕ) where
   unfolding placing lookup
   over-none e = ap (λ (o : Option Key). says o b) (sym e)
 
-  pub over-past : (k : Key) → Some k ≡ firstHeld (h f) (path b) → k .start + k .length ≤ b → Over (placing h f) b None
+  pub over-miss : (k : Key) → Some k ≡ firstHeld (h f) (path b) → inside (k .start) (k .length) b ≡ false → Over (placing h f) b None
   unfolding placing lookup
-  over-past k e o = ap (λ (o : Option Key). says o b) (sym e) ∙ cond-false (inside (k .start) (k .length) b) _ None (inside-after (k .start) (k .length) b o)
+  over-miss k e o = ap (λ (o : Option Key). says o b) (sym e) ∙ cond-false (inside (k .start) (k .length) b) _ None o

@@ -14,9 +14,10 @@ use Rattle.faults.specs.declared.Ground.{Ground}
 use Rattle.faults.specs.declared.Ground.the-variants.{Mapped, TooManyKeys}
 use Rattle.blocks.specs.Blocks.{Placement}
 use Rattle.tables.specs.Holding.{Holding}
-use Rattle.maps.specs.Steps.{Outcome, ifRoom, unlessMapped, unlessGround, faultOf}
+use Rattle.maps.specs.Steps.{Outcome, ifRoom, unlessMapped, unlessGround, answer, faultOf, fileGround, forgotten, forgetStep}
 use Rattle.key_rule.specs.Keyed.{keyed, placing, keyRule}
 use Rattle.key_rule.specs.Mends.{Mended}
+use Rattle.maps.proofs.Forgets.{file-good}
 use Rattle.key_rule.proofs.Mends.{placing-keyed}
 
 abbrev outcome : Result (Unit {0}) Fault → Placement → Outcome
@@ -42,7 +43,18 @@ module _ (h g : Holding) (room : ℕ) (q : Placement) (file first : ℕ) where
       let o = leb-true (keyRule q) room (sym e) in
       ap (λ (u : Placement). outcome (Ok tt) u) (ap placing f ∙ placing-keyed q) ∙ sym (cond-false (ltb room (keyRule q)) _ _ (le-ltb room (keyRule q) o))
 
-  pub mended-full : Mended h room q false g → _≡_ {A = Outcome} (Err (faultOf TooManyKeys file first), placing g) (ifRoom keyRule room (placing h) q file first)
-  mended-full (e, f) =
+  pub mended-full : (t : Fault) → t ≡ faultOf TooManyKeys file first → Mended h room q false g
+      → _≡_ {A = Outcome} (Err t, placing g) (ifRoom keyRule room (placing h) q file first)
+  mended-full t is (e, f) =
       let o = leb-false (keyRule q) room (sym e) in
-      ap (λ (u : Placement). outcome (Err (faultOf TooManyKeys file first)) u) (ap placing f) ∙ sym (cond-true (ltb room (keyRule q)) _ _ (lt-ltb room (keyRule q) o))
+      ap (λ (t : Fault). outcome (Err t) (placing g)) is ∙ ap (λ (u : Placement). outcome (Err (faultOf TooManyKeys file first)) u) (ap placing f)
+      ∙ sym (cond-true (ltb room (keyRule q)) _ _ (lt-ltb room (keyRule q) o))
+
+pub answer-ok : {X : Type 0} (file block : ℕ) (o : Option Ground) (x y : X) → None ≡ o → y ≡ x → _≡_ {A = Result X Fault} (Ok y) (answer file block o x)
+answer-ok file block o x y e f =
+    ap Ok f ∙ ap (λ (z : Option Ground). answer file block z x) e
+
+pub forgotten-by : (h g : Holding) (file : ℕ) → file ≤ 65535 → g ≡ keyed (forgotten (placing h) file) → _≡_ {A = Outcome} (Ok tt, placing g) (forgetStep (placing h) file)
+forgotten-by h g file o e =
+    granted-by (fileGround file) (placing h) file 0 (Ok tt, placing g) (Ok tt, forgotten (placing h) file) (sym (file-good file (omega arith)))
+    (ap (λ (u : Placement). outcome (Ok tt) u) (ap placing e ∙ placing-keyed (forgotten (placing h) file)))

@@ -5,7 +5,7 @@ use mathlib.Core.Logic.{_⊎_, inl, inr}
 use Prim.Native.Nat.{ℕ, zero, suc, _+_, _-_, _*_, _%_, _^_, _≤_, _<_}
 use native.Mathlib.Omega.{arith}
 use lib.Pow.{pow-pos}
-use Rattle.std.proofs.shelf.Tests.{cases-lt, cases-eq}
+use Rattle.std.proofs.shelf.Tests.{cond-true}
 use Rattle.std.specs.declared.option.Option.{Option}
 use Rattle.std.specs.declared.option.Option.the-variants.{Some, None}
 use Rattle.extents.specs.Extents.{FileMap, KeyTable, entry, IsKey, Barrier, keyAt}
@@ -17,7 +17,9 @@ use Rattle.extents.proofs.Greed.{run-further, piece-key, piece-pos, piece-fits}
 use Rattle.std.specs.Options.{isSome}
 use Rattle.blocks.specs.Blocks.{Placement, changed, only, one, tally}
 use Rattle.blocks.specs.declared.Entry.{Entry}
-use Rattle.tables.specs.Holding.{Holding}
+use Rattle.tables.specs.Holding.{Holding, full}
+use Rattle.tables.proofs.Looks.{room-new}
+use mathlib.Core.Bool.{Bool, true, false, cond, not}
 use Rattle.blocks.proofs.Sums.{tally-change}
 use Rattle.key_rule.specs.Mends.{update, blend, Lay, Empty}
 use Rattle.key_rule.proofs.Tallies.{blend-in, blend-out, blend-step, blend-more}
@@ -94,3 +96,9 @@ module _ (m : FileMap) (l r p x s : ℕ) (st : Step m l r p x s) (file : ℕ) (h
 
 pub count-on : (n k a b : ℕ) → n + k ≡ a → a + 1 ≡ b → (n + 1) + k ≡ b
 count-on n k a b p q = omega arith
+
+-- what a table holds after a put for which there was room
+pub stored : (h g : Holding) (n file block : ℕ) (e : Entry) (done : Bool) → done ≡ not (full h n file block)
+    → g ≡ cond done (update h file block (Some e)) h → tally h < n → g ≡ update h file block (Some e)
+stored h g n file block e done is after room =
+    after ∙ cond-true done (update h file block (Some e)) h (is ∙ ap not (room-new h n file block room))

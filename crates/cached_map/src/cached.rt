@@ -1,9 +1,11 @@
 //! A map that remembers the translations found last.
 
 ghost use mathlib.Core.Path.{_≡_};
+ghost use mathlib.Core.Bool.{true};
+ghost use Rattle.std.specs.Options.{isSome};
 ghost use Rattle.blocks.specs.Blocks.{Placement};
 ghost use Rattle.maps.specs.Steps.{nowhere, Outcome, findAnswer, nextAnswer, assignStep, clearStep, forgetStep};
-ghost use Rattle.cached_map.specs.Remembering.{Sound, blankMemory, afterFind, afterTaking};
+ghost use Rattle.cached_map.specs.Remembering.{Sound, blankMemory, recalled, afterFind, afterTaking};
 use crate::memory::Memory;
 use faults::Fault;
 use maps::Map;
@@ -53,6 +55,7 @@ pub impl<M: Map> Map for CachedMap<M> as CachedMapMap {
         ensures answer { λ r. ⌜ (Sound (M·Map .valid) (M·Map .placed) (now (self .entry)) → r ≡ findAnswer (M·Map .placed (now (self .entry) .map)) file block) ⌝ }
         ensures same { λ _. ⌜ (Sound (M·Map .valid) (M·Map .placed) (now (self .entry)) → M·Map .placed (now (self .exit) .map) ≡ M·Map .placed (now (self .entry) .map)) ⌝ }
         ensures memory { λ r. ⌜ now (self .exit) .memory ≡ afterFind (now (self .entry) .memory) file block r ⌝ }
+        ensures hit { λ _. ⌜ (isSome (recalled (now (self .entry) .memory .lines) file block) ≡ true → now (self .exit) ≡ now (self .entry)) ⌝ }
     {
         if let Some(board) = self.memory.recall(file, block) {
             return Ok(Some(board));

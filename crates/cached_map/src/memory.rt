@@ -14,15 +14,11 @@ pub struct Line {
 
 impl Line {
     /// The line, which says nothing any more if its block is one of the n of the file from `first` on.
-    fn without(self, file: u32, first: u32, n: u32) -> Line
+    fn without(mut self, file: u32, first: u32, n: u32) -> Line
         ensures { λ r. ⌜ r ≡ struck file first n self ⌝ }
     {
         if self.file == file && self.block >= first && self.block - first < n {
-            return Line {
-                file: self.file,
-                block: self.block,
-                board: None,
-            };
+            self.board = None;
         }
         self
     }

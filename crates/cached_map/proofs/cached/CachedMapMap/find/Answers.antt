@@ -7,6 +7,7 @@ use Rattle.std.specs.declared.option.Option.the-variants.{Some}
 use Rattle.std.specs.declared.result.Result.{Result}
 use Rattle.std.specs.declared.result.Result.the-variants.{Ok}
 use Rattle.faults.specs.declared.Fault.{Fault}
+use Rattle.std.proofs.shelf.Tests.{false≢true}
 use Rattle.cached_map.specs.declared.memory.Memory.{Memory}
 use Rattle.cached_map.specs.Remembering.{AllTrue, remembered}
 use Rattle.cached_map.proofs.Truth.{true-recalled, true-set, true-same}
@@ -28,6 +29,7 @@ returns-in-Some g c =
           (true-recalled (g .M·Map .placed (c .args .self .now .map)) (m .lines) f b board (v .1) (sym s));
       same = λ v. refl;
       memory = ap (λ (o : Option ℕ). cond (isSome o) m (remembered m f b board)) s;
+      hit = λ _. refl;
     }
 
 pub returns-in-Some-found : need.returns-in-Some-found
@@ -50,4 +52,5 @@ returns-in-Some-found g c =
       answer = λ v. said ∙ e .answer (v .0);
       same = λ v. e .same (v .0);
       memory = c .remember .ensures ∙ ap (λ (o : Option ℕ). cond (isSome o) m (remembered m f b board)) (c .in-rest .ensures tt);
+      hit = λ k. absurd (false≢true (ap isSome (c .in-rest .ensures tt) ∙ k));
     }

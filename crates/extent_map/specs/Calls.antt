@@ -9,13 +9,19 @@ use Rattle.faults.specs.declared.Ground.{Ground}
 use Rattle.blocks.specs.declared.Entry.{Entry}
 use Rattle.extents.specs.declared.look.Found.{Found}
 use Rattle.extents.specs.Extents.{FileMap, IsKey, lookup, tried, keyAt}
+use Rattle.blocks.specs.Blocks.{Placement}
 use Rattle.tables.specs.Holding.{Holding}
 use Rattle.maps.specs.Steps.{answer, blockGround}
 
--- what the counted look-up of a block answers: its board number or none, and how many keys of its path were tried
-abbrev pub countedAnswer : Holding → ℕ → ℕ → Result Found Fault
-countedAnswer h file block =
+-- what the counted look-up of a block reads from a table: its board number or none, and how many keys of its path were tried
+abbrev pub countedIn : Holding → ℕ → ℕ → Result Found Fault
+countedIn h file block =
     answer file block (blockGround file block) (record { board = lookup (h file) block; tried = tried (h file) block })
+
+-- the same by what is placed, where the keys tried are those of the file's map
+abbrev pub countedAnswer : Placement → ℕ → ℕ → Result Found Fault
+countedAnswer p file block =
+    answer file block (blockGround file block) (record { board = p file block; tried = tried (keyAt (p file)) block })
 
 -- The numbers of a key that starts at a block are such as a map has.
 abbrev pub Fitting : ℕ → Option Entry → Type 0

@@ -5,7 +5,7 @@ ghost use Prim.Native.Nat.{ℕ, _≤_};
 ghost use Rattle.extents.specs.Extents.{KeysOf};
 ghost use Rattle.maps.specs.Steps.{nowhere};
 ghost use Rattle.key_rule.specs.Keyed.{Held, placing, keyRule};
-ghost use Rattle.extent_map.specs.Calls.{countedAnswer};
+ghost use Rattle.extent_map.specs.Calls.{countedIn, countedAnswer};
 use crate::edges::*;
 use crate::grounds::*;
 use crate::keys::look;
@@ -37,7 +37,8 @@ impl<T: Table> ExtentMap<T> {
 
     /// Looks a block up along its path, and tells how many keys were tried.
     pub fn find_counted(&self, file: u32, block: u32) -> Result<Found, Fault>
-        ensures { λ r. ⌜ (T·Table .valid (now (self .entry) .table) → r ≡ countedAnswer (T·Table .holding (now (self .entry) .table)) file block) ⌝ }
+        ensures read { λ r. ⌜ (T·Table .valid (now (self .entry) .table) → r ≡ countedIn (T·Table .holding (now (self .entry) .table)) file block) ⌝ }
+        ensures answer { λ r. ⌜ (T·Table .valid (now (self .entry) .table) → Held (T·Table .holding (now (self .entry) .table)) → r ≡ countedAnswer (placing (T·Table .holding (now (self .entry) .table))) file block) ⌝ }
     {
         if let Some(ground) = block_ground(file, block) {
             return Err(refusal(ground, file, block));

@@ -1,11 +1,10 @@
 -- Keys that are entered or dropped one after another.
 use mathlib.Core.Path.{_≡_, refl, sym, ap, fun-ext, _∙_}
 use mathlib.Core.Logic.{_⊎_, inl, inr, _≢_}
-use mathlib.Core.Bool.{Bool, true, false, cond, not}
+use mathlib.Core.Bool.{Bool, true, cond, not}
 use Prim.Native.Nat.{ℕ, zero, suc, _+_, _-_, _<_, _≤_}
 use native.Mathlib.Omega.{arith}
 use native.Mathlib.Numerals.{add-one}
-use lib.Dec.{eqb}
 use Rattle.std.specs.Options.{isSome}
 use Rattle.std.specs.declared.option.Option.{Option}
 use Rattle.std.specs.declared.option.Option.the-variants.{Some, None}
@@ -13,11 +12,11 @@ use Rattle.std.proofs.shelf.Tests.{cases-eq, cases-lt, not-from-false}
 use Rattle.blocks.specs.Blocks.{only, inside, every, changed, one, tally}
 use Rattle.blocks.specs.declared.Entry.{Entry}
 use Rattle.blocks.proofs.Changes.{changed-here, changed-beside, changed-elsewhere, only-here, only-other, inside-yes, inside-before, inside-after}
-use Rattle.blocks.proofs.Sums.{tally-change, tally-same}
+use Rattle.blocks.proofs.Sums.{tally-change}
 use Rattle.tables.specs.declared.row.Row.{Row}
 use Rattle.tables.specs.Holding.{Holding, Numbered, full, lowestRow}
 use Rattle.tables.proofs.Looks.{room-new}
-use Rattle.tables.proofs.Lowest.{lowest-when-none, lowest-when-some}
+use Rattle.tables.proofs.Lowest.{lowest-when-some}
 use Rattle.block_map.specs.BlockKeys.{Free, single}
 
 -- Two that agree on one file and on all others are the same.

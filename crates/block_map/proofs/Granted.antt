@@ -1,6 +1,6 @@
 -- What the calls of a map come to where one key stands for each mapped block.
 use mathlib.Core.Path.{_≡_, refl, sym, ap, subst, fun-ext, _∙_}
-use mathlib.Core.Logic.{_⊎_, inl, inr, _≢_}
+use mathlib.Core.Logic.{_⊎_, inl, inr}
 use mathlib.Core.Bool.{Bool, true, false, cond, _&&_}
 use Prim.Native.Nat.{ℕ, _+_, _-_, _<_, _≤_}
 use native.Mathlib.Omega.{arith}
@@ -17,14 +17,11 @@ use Rattle.faults.specs.declared.Ground.the-variants.{TooManyKeys}
 use Rattle.blocks.specs.Blocks.{Placement, inside, every, changed, one, tally}
 use Rattle.blocks.specs.declared.Entry.{Entry}
 use Rattle.blocks.proofs.Sums.{tally-fewer}
-use Rattle.tables.specs.Holding.{Holding, Numbered}
+use Rattle.tables.specs.Holding.{Holding}
 use Rattle.maps.specs.Steps.{Outcome, answer, faultOf, lowestMapped, unlessGround, unlessMapped, ifRoom, assigned, cleared, forgotten, extentGround, assignGround, fileGround, assignStep, clearStep, forgetStep}
-use Rattle.block_map.specs.BlockKeys.{placedBy, Single, Free, single}
+use Rattle.block_map.specs.BlockKeys.{placedBy, Single, single}
 use Rattle.block_map.proofs.Extending.{tally-run}
-use Rattle.block_map.proofs.Lowest.{free-when-none}
-
-none-some : {X : Type 0} (x : X) → _≡_ {A = Option X} None (Some x) → ⊥
-none-some x e = let z : _≡_ {A = ℕ} 0 1 = cc in omega arith
+use Rattle.block_map.proofs.Lowest.{none-some, free-when-none}
 
 -- ---- what keys say
 
@@ -84,9 +81,6 @@ single-put h h′ file first n board l e s =
 pub single-out : (h h′ : Holding) (file : ℕ) (chosen : ℕ → Bool) → h′ ≡ changed h file chosen (λ _. None) → Single h → Single h′
 single-out h h′ file chosen e s = subst Single (sym e) (single-changed h file chosen (λ _. None) (λ b x _ k. absurd (none-some x k)) s)
 
-pub single-nothing : (h : Holding) → h ≡ (λ f b. None) → Single h
-single-nothing h e f b x k = absurd (none-some x (sym (ap (λ (z : Holding). z f b) e) ∙ k))
-
 -- What lies somewhere lies on the board.
 pub placed-low : (h : Holding) (f b p : ℕ) → Single h → placedBy h f b ≡ Some p → p < 4096
 placed-low h f b p s e = at (h f b) (λ x. s f b x) e
@@ -94,18 +88,6 @@ placed-low h f b p s e = at (h f b) (λ x. s f b x) e
     at : (o : Option Entry) → ((x : Entry) → o ≡ Some x → (x .length ≡ 1) × (x .board < 4096)) → mapped (λ (e : Entry). e .board) o ≡ Some p → p < 4096
     at None k q = absurd (none-some p q)
     at (Some x) k q = let z : x .board ≡ p = cc in let l = k x refl .1 in omega arith
-
--- Keys are file and block numbers, so mapped blocks are.
-pub placed-within : (h : Holding) (f b : ℕ) → Numbered h → (65536 ≤ f) ⊎ (65536 ≤ b) → placedBy h f b ≡ None
-placed-within h f b num out = at (h f b) (λ s. num f b s)
-  where
-    never : (f < 65536) × (b < 65536) → (65536 ≤ f) ⊎ (65536 ≤ b) → ⊥
-    never k (inl l) = omega (arith, k .0)
-    never k (inr l) = omega (arith, k .1)
-
-    at : (o : Option Entry) → (isSome o ≡ true → (f < 65536) × (b < 65536)) → mapped (λ (e : Entry). e .board) o ≡ None
-    at None k = refl
-    at (Some x) k = absurd (never (k refl) out)
 
 -- ---- the calls
 

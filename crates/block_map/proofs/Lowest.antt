@@ -1,6 +1,6 @@
 -- The lowest mapped block of an extent.
 use mathlib.Core.Path.{_≡_, refl, sym, ap, _∙_}
-use mathlib.Core.Logic.{_⊎_, inl, inr}
+use mathlib.Core.Logic.{inl, inr}
 use mathlib.Core.Bool.{true}
 use Prim.Native.Nat.{ℕ, zero, suc, _+_, _-_, _<_, _≤_}
 use native.Mathlib.Omega.{arith}
@@ -15,7 +15,7 @@ use Rattle.tables.proofs.Lowest.{lowest-when-none, lowest-when-some}
 use Rattle.maps.specs.Steps.{lowestMapped, hereOr}
 use Rattle.block_map.specs.BlockKeys.{placedBy, Free}
 
-none-some : {X : Type 0} (x : X) → _≡_ {A = Option X} None (Some x) → ⊥
+pub none-some : {X : Type 0} (x : X) → _≡_ {A = Option X} None (Some x) → ⊥
 none-some x e = let z : _≡_ {A = ℕ} 0 1 = cc in omega arith
 
 here-none : (o : Option ℕ) (b : ℕ) (r : Option ℕ) → o ≡ None → hereOr o b r ≡ r

@@ -1,7 +1,7 @@
 //! The block map.
 
 ghost use mathlib.Core.Path.{_≡_};
-ghost use Rattle.blocks.specs.Blocks.{Placement, tally};
+ghost use Rattle.blocks.specs.Blocks.{tally};
 ghost use Rattle.maps.specs.Steps.{nowhere};
 ghost use Rattle.block_map.specs.BlockKeys.{placedBy, Single};
 use crate::checks::*;

@@ -1,9 +1,8 @@
 //! Keys of a table that each stand for one block.
 
 ghost use mathlib.Core.Path.{_≡_};
-ghost use Prim.Native.Nat.{ℕ, _+_, _-_, _<_, _≤_};
-ghost use Rattle.std.specs.declared.option.Option.{Option};
-ghost use Rattle.std.specs.declared.option.Option.the-variants.{Some, None};
+ghost use Prim.Native.Nat.{_+_, _<_, _≤_};
+ghost use Rattle.std.specs.declared.option.Option.the-variants.{None};
 ghost use Rattle.blocks.specs.Blocks.{tally, inside, every, changed};
 ghost use Rattle.maps.specs.Steps.{lowestMapped};
 ghost use Rattle.block_map.specs.BlockKeys.{placedBy, single, Free};

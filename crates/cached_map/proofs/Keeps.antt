@@ -8,17 +8,15 @@ use lib.Dec.{eqb, leb, ltb}
 use Rattle.std.specs.declared.option.Option.{Option}
 use Rattle.std.specs.declared.option.Option.the-variants.{Some, None}
 use Rattle.std.specs.declared.result.Result.{Result}
-use Rattle.std.specs.declared.result.Result.the-variants.{Ok, Err}
-use Rattle.std.proofs.shelf.Tests.{cases-bool, cases-eq, cases-lt, and-parts, and-from, leb-true, ltb-true, eqb-true, le-leb, lt-ltb, le-ltb, eq-eqb, ne-eqb, cond-true, cond-false, both-ways}
+use Rattle.std.specs.declared.result.Result.the-variants.{Ok}
+use Rattle.std.proofs.shelf.Tests.{cases-bool, cases-eq, cases-lt, and-parts, and-from, leb-true, ltb-true, eqb-true, le-leb, lt-ltb, le-ltb, eq-eqb, cond-false, both-ways}
 use Rattle.faults.specs.declared.Fault.{Fault}
 use Rattle.faults.specs.declared.Ground.{Ground}
 use Rattle.faults.specs.declared.Ground.the-variants.{File, Block}
 use Rattle.blocks.specs.Blocks.{Placement, inside, every, changed}
 use Rattle.blocks.proofs.Changes.{changed-elsewhere}
-use Rattle.maps.specs.Steps.{Outcome, answer, blockGround, findAnswer, lowestMapped, hereOr, unlessGround, unlessMapped, ifRoom, assigned, cleared, forgotten, extentGround, assignGround, fileGround, assignStep, clearStep, forgetStep}
-
-none-some : (v : ℕ) → _≡_ {A = Option ℕ} None (Some v) → ⊥
-none-some v e = let z : _≡_ {A = ℕ} 0 1 = cc in omega arith
+use Rattle.cached_map.proofs.Truth.{none-some}
+use Rattle.maps.specs.Steps.{Outcome, answer, blockGround, findAnswer, lowestMapped, hereOr, unlessGround, unlessMapped, ifRoom, assigned, cleared, extentGround, assignGround, fileGround, assignStep, clearStep, forgetStep}
 
 -- ---- a block that is mapped is found
 

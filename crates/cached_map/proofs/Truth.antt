@@ -3,19 +3,19 @@ use mathlib.Core.Path.{_≡_, refl, sym, ap, subst, _∙_}
 use mathlib.Core.Logic.{_⊎_, inl, inr}
 use mathlib.Core.Bool.{Bool, true, false, cond, _&&_}
 use mathlib.Core.List.{List, [], _∷_, map}
-use Prim.Native.Nat.{ℕ, zero, suc, _+_, _<_, _≤_}
+use Prim.Native.Nat.{ℕ, zero, suc}
 use native.Mathlib.Omega.{arith}
 use lib.Dec.{eqb}
-use lib.ListN.{length, getD, set, replicate}
+use lib.ListN.{set}
 use Rattle.std.specs.Options.{orOther, isSome}
 use Rattle.std.specs.declared.option.Option.{Option}
 use Rattle.std.specs.declared.option.Option.the-variants.{Some, None}
 use Rattle.std.proofs.shelf.Tests.{true≢false, false≢true, cases-bool, cases-eq, and-parts, and-from, and-left, and-right, eqb-true, eq-eqb, ne-eqb, cond-true, cond-false}
 use Rattle.blocks.specs.Blocks.{Placement, inside}
 use Rattle.cached_map.specs.declared.memory.Line.{Line}
-use Rattle.cached_map.specs.Remembering.{says, True, blankLine, struck, recalled, AllTrue}
+use Rattle.cached_map.specs.Remembering.{says, True, struck, recalled, AllTrue}
 
-none-some : (v : ℕ) → _≡_ {A = Option ℕ} None (Some v) → ⊥
+pub none-some : (v : ℕ) → _≡_ {A = Option ℕ} None (Some v) → ⊥
 none-some v e = let z : _≡_ {A = ℕ} 0 1 = cc in omega arith
 
 -- ---- one line
@@ -81,10 +81,6 @@ true-recalled p (l ∷ ls) file block v t e = elim (or-cases (says file block l)
   | inl x ↦ true-says p l file block v (t .0) x
   | inr x ↦ true-recalled p ls file block v (t .1) x
 ]
-
-pub true-blank : (p : Placement) (n : ℕ) → AllTrue p (replicate n blankLine)
-true-blank p zero = tt
-true-blank p (suc n) = ((λ v e. absurd (none-some v e)), true-blank p n)
 
 pub true-set : (p : Placement) (ls : List Line) (i file block v : ℕ) → p file block ≡ Some v
     → AllTrue p ls → AllTrue p (set ls i (record { file = file; block = block; board = Some v }))

@@ -3,7 +3,6 @@
 ghost use mathlib.Core.Path.{_≡_};
 ghost use mathlib.Core.Bool.{true};
 ghost use Rattle.std.specs.Options.{isSome};
-ghost use Rattle.blocks.specs.Blocks.{Placement};
 ghost use Rattle.maps.specs.Steps.{nowhere, Outcome, findAnswer, nextAnswer, assignStep, clearStep, forgetStep};
 ghost use Rattle.cached_map.specs.Remembering.{Sound, blankMemory, recalled, afterFind, afterTaking};
 use crate::memory::Memory;

@@ -1,8 +1,6 @@
-use mathlib.Core.Path.{_≡_, sym, ap, _∙_}
-use Prim.Native.Nat.{_+_}
+use mathlib.Core.Path.{sym, ap, _∙_}
 use native.Mathlib.Omega.{arith}
 use Rattle.std.specs.Options.{isSome}
-use Rattle.block_map.specs.BlockKeys.{Free}
 use Rattle.block_map.proofs.Lowest.{none-when-free, some-after-free}
 use Rattle.block_map.proofs.keys.first_mapped.Needs as need
 

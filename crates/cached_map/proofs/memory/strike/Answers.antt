@@ -1,8 +1,5 @@
-use mathlib.Core.Path.{_≡_, ap, _∙_}
-use mathlib.Core.List.{List}
-use Prim.Native.Nat.{_+_}
+use mathlib.Core.Path.{ap, _∙_}
 use lib.ListN.{set}
-use Rattle.cached_map.specs.declared.memory.Line.{Line}
 use Rattle.cached_map.specs.Remembering.{struck, blankLine}
 use Rattle.cached_map.proofs.Passes.{pass-more, pass-all}
 use Rattle.cached_map.proofs.memory.strike.Needs as need

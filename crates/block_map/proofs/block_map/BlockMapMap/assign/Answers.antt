@@ -1,11 +1,9 @@
-use mathlib.Core.Path.{_≡_, refl, sym, ap, _∙_}
-use Prim.Native.Nat.{ℕ, _+_, _<_, _≤_}
+use mathlib.Core.Path.{_≡_, refl, ap, _∙_}
+use Prim.Native.Nat.{_+_, _<_, _≤_}
 use native.Mathlib.Omega.{arith}
-use Rattle.std.specs.declared.result.Result.{Result}
 use Rattle.std.specs.declared.result.Result.the-variants.{Err}
 use Rattle.faults.specs.declared.Fault.{Fault}
-use Rattle.blocks.specs.Blocks.{Placement, tally}
-use Rattle.maps.specs.Steps.{Outcome}
+use Rattle.blocks.specs.Blocks.{tally}
 use Rattle.block_map.specs.BlockKeys.{placedBy}
 use Rattle.block_map.proofs.Lowest.{free-when-none}
 use Rattle.block_map.proofs.Granted.{assign-full, assign-done, single-put}

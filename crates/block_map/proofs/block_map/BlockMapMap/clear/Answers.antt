@@ -1,4 +1,3 @@
-use mathlib.Core.Path.{_≡_}
 use Rattle.blocks.specs.Blocks.{inside}
 use Rattle.block_map.proofs.Granted.{clear-done, single-out}
 use Rattle.block_map.proofs.block_map.BlockMapMap.clear.Needs as need

@@ -1,4 +1,3 @@
-use mathlib.Core.Path.{_≡_}
 use Rattle.blocks.specs.Blocks.{every}
 use Rattle.block_map.proofs.Granted.{forget-done, single-out}
 use Rattle.block_map.proofs.block_map.BlockMapMap.forget.Needs as need

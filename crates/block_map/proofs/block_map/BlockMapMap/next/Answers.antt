@@ -1,6 +1,5 @@
-use mathlib.Core.Path.{_≡_, refl, sym, ap, _∙_}
-use Prim.Native.Nat.{ℕ, _-_}
-use Rattle.std.specs.declared.option.Option.{Option}
+use mathlib.Core.Path.{refl}
+use Prim.Native.Nat.{_-_}
 use Rattle.block_map.proofs.Lowest.{next-none, next-some}
 use Rattle.block_map.proofs.Granted.{answered}
 use Rattle.block_map.proofs.block_map.BlockMapMap.next.Needs as need

@@ -1,4 +1,3 @@
-use Prim.Native.Nat.{_≤_}
 use native.Mathlib.Omega.{arith}
 use Rattle.blocks.specs.Blocks.{every}
 use Rattle.block_map.proofs.Granted.{tally-out, tally-placed, placed-low}

@@ -1,5 +1,4 @@
-use mathlib.Core.Path.{sym, ap, subst}
-use mathlib.Core.List.{List}
+use mathlib.Core.Path.{sym, subst}
 use Rattle.std.specs.declared.result.Result.the-variants.{Ok}
 use Rattle.cached_map.specs.declared.memory.Memory.{Memory}
 use Rattle.cached_map.specs.Remembering.{AllTrue}

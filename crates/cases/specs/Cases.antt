@@ -8,6 +8,7 @@ use Rattle.std.specs.declared.option.Option.the-variants.{Some}
 use Rattle.blocks.specs.Blocks.{inside}
 use Rattle.extents.specs.Extents.{FileMap, key, path}
 use Rattle.extents.specs.Runs.{runMap, ListsKeys}
+use Rattle.key_rule.specs.Keyed.{Cut-in-two}
 use Rattle.ledger.specs.Worked.{WorkedBoard}
 use Rattle.tables.specs.Spreads.{mixed}
 
@@ -39,3 +40,5 @@ pub record Worked : Type 0 where
   -- a board of four blocks, filled and filled again
   pub board : WorkedBoard
   pub mixing : Mixing
+  -- a key that is cut in two, with room for one key and for two
+  pub cut-in-two : Cut-in-two

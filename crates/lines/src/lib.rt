@@ -79,19 +79,28 @@ pub impl<'a> Iterator for LineReader<'a> as LineReaderIterator {
     }
 }
 
+/// A field has at most so many digits.
+const MOST_DIGITS: usize = 5;
+
+/// The digit that may not stand in front of others.
+const ZERO: u8 = b'0';
+
+/// The last digit.
+const NINE: u8 = b'9';
+
 /// The number that a decimal field of one to five digits stands for, if it has no needless zero in front.
 pub fn number_of(field: &[u8]) -> Option<u32>
     ensures { λ r. ⌜ r ≡ number (now (field .entry)) ⌝ }
 {
-    if field.is_empty() || field.len() > 5 {
+    if field.is_empty() || field.len() > MOST_DIGITS {
         return None;
     }
-    if field.len() > 1 && field[0] == b'0' {
+    if field.len() > 1 && field[0] == ZERO {
         return None;
     }
     let mut value = 0;
     for digit in field {
-        if *digit < b'0' || *digit > b'9' {
+        if *digit < b'0' || *digit > NINE {
             return None;
         }
         value = 10 * value + u32::from(*digit - b'0');

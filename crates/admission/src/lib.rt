@@ -1,5 +1,7 @@
 //! Whether the arguments of a store's call admit it, by the sizes of the lower store.
 
+#![tactic(auto)]
+
 ghost use Rattle.std.specs.Prelude.{◌≡◌, Ok};
 ghost use Rattle.ledger.specs.Store.{unless};
 ghost use Rattle.lowers.specs.Lowers.{ground_of_block, ground_of_extent};

@@ -1,5 +1,7 @@
 //! The single bits of a word of 64 bits.
 
+#![tactic(auto)]
+
 ghost use Rattle.std.specs.Prelude.{◌≡◌, ◌-◌, ◌%◌, true, false};
 ghost use Rattle.bits.specs.Bits.{bit};
 ghost use Rattle.ledger.specs.Free.{first_free};

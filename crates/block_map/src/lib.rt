@@ -1,5 +1,7 @@
 //! A map with one key for each mapped block, over any table.
 
+#![tactic(auto)]
+
 pub mod block_map;
 mod checks;
 mod keys;

@@ -1,5 +1,7 @@
 //! Sets of board numbers below 4,096, one bit each.
 
+#![tactic(auto)]
+
 ghost use Rattle.std.specs.Prelude.{◌≡◌, ◌-◌, min, false};
 ghost use Rattle.ledger.specs.Free.{first_free};
 ghost use Rattle.ledger.specs.Store.{put};

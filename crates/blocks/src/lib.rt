@@ -1,5 +1,7 @@
 //! Blocks of files: their sizes, and what is said of all of them at once.
 
+#![tactic(auto)]
+
 /// The bytes of a block.
 pub const BLOCK_BYTES: usize = 4096;
 

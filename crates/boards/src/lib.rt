@@ -1,5 +1,7 @@
 //! Boards: rows of blocks that are read and replaced by number.
 
+#![tactic(auto)]
+
 ghost use Rattle.std.specs.Prelude.{◌≡◌, ℕ, ◌*◌, ◌<◌, ◌≤◌, List, length, is_ok, if◌then◌else◌};
 ghost use Rattle.memory.specs.Memory.{overlaid};
 ghost use Rattle.boards.specs.Boards.{board_answer, ReadsBlock, ReplacesBlock, size_in, block_in, joined_size, joined_block, LeavesParts, left_written, right_written};

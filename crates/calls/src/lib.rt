@@ -1,5 +1,7 @@
 //! What a block store is asked and what it answers.
 
+#![tactic(auto)]
+
 ghost use Rattle.std.specs.Prelude.{◌≡◌};
 ghost use Rattle.calls.specs.Answers.{fault_in};
 ghost use Rattle.calls.specs.declared.StoreFault.TheVariants.{FromMap};

@@ -1,5 +1,7 @@
 //! Carrying all that a reading side has to a lower store, and comparing bytes afterwards.
 
+#![tactic(auto)]
+
 ghost use Rattle.std.specs.Prelude.{◌≡◌, ◌+◌, ◌-◌, ◌*◌, ◌<◌, ◌≤◌, min, length};
 ghost use Rattle.lowers.specs.Lowers.{Holds};
 ghost use Rattle.carrying.specs.Carrying.{file_carried, blocks_carried, all_carried, differing};

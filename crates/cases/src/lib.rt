@@ -1,5 +1,7 @@
 //! Worked cases: what the rules come to on numbers, proved from the rules and then run.
 
+#![tactic(auto)]
+
 ghost use Rattle.cases.specs.Cases.{Worked};
 
 /// The worked cases hold by the rules alone.

@@ -1,5 +1,7 @@
 //! Board blocks for the blocks of files: how a new block gets its place, and how blocks lose theirs.
 
+#![tactic(auto)]
+
 ghost use Rattle.std.specs.Prelude.{◌≡◌, ◌+◌, ◌<◌, ◌≤◌, None};
 ghost use Rattle.ledger.specs.Free.{goal};
 ghost use Rattle.pool.specs.Pool.{taken_in};

@@ -18,7 +18,7 @@ use Rattle.console.specs.declared.ConsoleError.TheVariants.{Refused, NoMemory}
 -- ---- the call
 
 -- the console's refusal, which names no file and no block
-abbrev pub console_fault : Ground → Fault
+abbrev pub console_fault : (ground : Ground) → Fault
 console_fault g = record { ground = g; layer = Console; file = 0; block = 0 }
 
 -- a text printed at the front of a buffer; what lies behind it stays

@@ -1,5 +1,7 @@
 //! The line console: prints a reply to each line of a text, over one extent map that is empty at first.
 
+#![tactic(auto)]
+
 ghost use Rattle.std.specs.Prelude.{◌≡◌, ◌≤◌, length, IfOk};
 ghost use Rattle.replies.specs.Console.{ground_of_console};
 ghost use Rattle.console.specs.declared.ConsoleError.TheVariants.{NoMemory};

@@ -1,6 +1,8 @@
 //! Reads commands for one extent map from standard input, a line each, and prints the reply to each.
 //! Input behind the first 8,192 bytes is not read.
 
+#![tactic(auto)]
+
 use anyhow::anyhow;
 use console::{ConsoleError, LONGEST_INPUT, print_replies};
 use std::io::{Read, Write};

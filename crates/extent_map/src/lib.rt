@@ -1,5 +1,7 @@
 //! A map that is held as its keys, in any key table.
 
+#![tactic(auto)]
+
 mod edges;
 mod grounds;
 mod keys;

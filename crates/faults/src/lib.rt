@@ -1,5 +1,7 @@
 //! Why a call is refused, and by which layer.
 
+#![tactic(auto)]
+
 ghost use Rattle.std.specs.Prelude.{◌≡◌};
 ghost use Rattle.faults.specs.Grounds.{ground_number, layer_name};
 

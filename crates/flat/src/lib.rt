@@ -1,5 +1,7 @@
 //! Files of blocks in memory handed over, file by file: a flat store that can be changed, and a picture that can only be read.
 
+#![tactic(auto)]
+
 mod layout;
 mod picture;
 mod store;

@@ -1,5 +1,7 @@
 //! The keys that a placement calls for, and how a table of exactly these keys is changed.
 
+#![tactic(auto)]
+
 ghost use Rattle.key_rule.specs.Keyed.{Exact, CutInTwo};
 
 /// A table that is held so has exactly the keys of each file's map, and as many as the rule says.

@@ -62,7 +62,7 @@ block_of (Remove file) = 0
 block_of (Demote file) = 0
 
 -- The refusal of a call on a ground: too many keys is the map's, whole inside the store's, every other is the store's own.
-abbrev pub refusal_on : Call → Ground → StoreFault
+abbrev pub refusal_on : Call → (ground : Ground) → StoreFault
 refusal_on c ground = cond (ground_number ground == 13)
     (FromMap (record { ground = ground; layer = Map; file = file_of c; block = block_of c }))
     (Own (record { ground = ground; layer = Store; file = file_of c; block = block_of c }))

@@ -56,7 +56,7 @@ put g k v i = cond (i == k) v (g i)
 -- ---- refusals
 
 -- a refusal of the store's own
-abbrev pub own : Ground → ℕ → ℕ → StoreFault
+abbrev pub own : (ground : Ground) → ℕ → ℕ → StoreFault
 own ground file block = Own (record { ground = ground; layer = Store; file = file; block = block })
 
 -- the map's refusal, whole inside the store's: the map would call for more keys than there is room for

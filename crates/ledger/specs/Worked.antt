@@ -2,14 +2,12 @@
 use Rattle.std.specs.Prelude.{◌≡◌, ℕ, ◌<◌, true, List, [], ◌∷◌, map, length, Ok, Err}
 use Rattle.blocks.specs.Blocks.{Placement}
 use Rattle.faults.specs.declared.Ground.TheVariants.{NoFreeBlock}
-use Rattle.faults.specs.declared.Layer.TheVariants.{Store}
 use Rattle.calls.specs.Answers.{Answer}
 use Rattle.ledger.specs.Keys.{KeyRule}
 use Rattle.ledger.specs.Sound.{New}
-use Rattle.ledger.specs.Store.{Shape, State, Ask, Told, outcome}
+use Rattle.ledger.specs.Store.{Shape, State, Ask, Told, own, outcome}
 use Rattle.calls.specs.declared.Call.TheVariants.{Write, Clear}
 use Rattle.calls.specs.declared.Granted.TheVariants.{Wrote, GaveBack}
-use Rattle.calls.specs.declared.StoreFault.TheVariants.{Own}
 use Rattle.calls.specs.declared.Written.TheVariants.{Board}
 
 -- Under any key rule, with any number of files and of blocks to a file.
@@ -47,7 +45,7 @@ worked_answers =
     ∷ took 2
     ∷ took 3
     ∷ took 0
-    ∷ Err (Own (record { ground = NoFreeBlock; layer = Store; file = 0; block = 0 }))
+    ∷ Err (own NoFreeBlock 0 0)
     ∷ Ok (GaveBack 1)
     ∷ took 1
     ∷ []

@@ -1,5 +1,7 @@
 //! The laws of a store, each the contract of a function that does nothing.
 
+#![tactic(auto)]
+
 ghost use Rattle.ledger.specs.Free.{FindsNearest};
 ghost use Rattle.ledger.specs.Keys.{KeysFit};
 ghost use Rattle.ledger.specs.Order.{RefusedInOrder, RefusedLeaves};

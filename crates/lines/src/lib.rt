@@ -1,5 +1,7 @@
 //! Lines of text and their decimal fields.
 
+#![tactic(auto)]
+
 ghost use Rattle.std.specs.Prelude.{◌≡◌, ◌-◌, [], length};
 ghost use Rattle.std.specs.Option.{option_map, unwrap_or};
 ghost use Rattle.lines.specs.Lines.{before, behind, NextLine, unread, number, fields};

@@ -1,5 +1,7 @@
 //! The look-up of a block along its path.
 
+#![tactic(auto)]
+
 ghost use Rattle.std.specs.Prelude.{◌≡◌};
 ghost use Rattle.extents.specs.Extents.{KeyTable, path, first_held_key, says, lookup, tried};
 ghost use Rattle.extents.specs.Runs.{table_of};

@@ -25,7 +25,7 @@ ground_of_extent files width file first n = first_ground (
     ∷ [])
 
 -- The answer to a call of this file and block, by the ground that refuses it.
-abbrev pub lower_answer : ℕ → ℕ → Option Ground → Result (Unit {0}) Fault
+abbrev pub lower_answer : ℕ → ℕ → (ground : Option Ground) → Result (Unit {0}) Fault
 lower_answer file block ground = answered Lower file block ground
 
 abbrev pub block_answer : ℕ → ℕ → ℕ → ℕ → ℕ → Result (Unit {0}) Fault

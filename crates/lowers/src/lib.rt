@@ -1,5 +1,7 @@
 //! Lower stores: files of blocks behind the board, and the reading side that they have in common with a picture.
 
+#![tactic(auto)]
+
 ghost use Rattle.std.specs.Prelude.{◌≡◌, ℕ, ◌<◌, ◌≤◌, min, length};
 ghost use Rattle.blocks.specs.Blocks.{Contents, only, inside, zero_block};
 ghost use Rattle.lowers.specs.Lowers.{ground_of_block, ground_of_extent, lower_answer, block_answer, extent_answer, Holds, CopiesOut, Changes};

@@ -10,7 +10,7 @@ use Rattle.blocks.specs.Blocks.{Placement, inside, every, changed}
 -- ---- refusals
 
 -- a map's refusal, naming a file and a block
-abbrev pub fault_of : Ground → ℕ → ℕ → Fault
+abbrev pub fault_of : (ground : Ground) → ℕ → ℕ → Fault
 fault_of g file block = record { ground = g; layer = Map; file = file; block = block }
 
 -- What a call that names a file and a block first answers: the fault, if there is a ground to refuse it, else x.

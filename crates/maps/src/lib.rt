@@ -1,5 +1,7 @@
 //! Maps from the blocks of files to board numbers, by their meaning.
 
+#![tactic(auto)]
+
 ghost use Rattle.std.specs.Prelude.{◌≡◌, ℕ, ◌<◌, ◌≤◌, ◌⊎◌, Some, None, Option};
 ghost use Rattle.blocks.specs.Blocks.{Placement, tally};
 ghost use Rattle.maps.specs.Steps.{nowhere, forgotten, Outcome, find_answer, next_answer, assign_step, clear_step, forget_step};

@@ -1,5 +1,7 @@
 //! A key table whose rows stand in rising order of their keys.
 
+#![tactic(auto)]
+
 ghost use Rattle.std.specs.Prelude.{◌≡◌, ℕ, min, IfOk, vec_capacity};
 ghost use Rattle.tables.specs.Holding.{nothing};
 ghost use Rattle.ordered.specs.Ordered.{Valid, holding_of, rank, Stands, Sought};

@@ -1,5 +1,7 @@
 //! The look-up path of a block, as a driver in C asks for it.
 
+#![tactic(auto)]
+
 ghost use Rattle.std.specs.Prelude.{◌≡◌};
 ghost use Rattle.extents.specs.Extents.{length_of_path, key_on_path};
 

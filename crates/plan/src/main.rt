@@ -1,5 +1,7 @@
 //! Plans extents: reads runs of blocks, one a line, and prints the keys of each.
 
+#![tactic(auto)]
+
 use anyhow::anyhow;
 use planning::plan::{PlanError, plan};
 use std::io::Read;

@@ -1,4 +1,6 @@
 //! Plans extents: cuts runs of blocks into keys, and reads every block back by the look-up path.
 
+#![tactic(auto)]
+
 pub mod plan;
 pub mod summary;

@@ -14,7 +14,7 @@ use faults::Ground;
 use lines::{LineReader, fields_of};
 use look_ups::look_up;
 use run_keys::run::{RunError, keys_of_run};
-use std::alloc::Global;
+use std::alloc::{AllocError, Global};
 use std::fmt;
 use std::fmt::Write;
 
@@ -31,6 +31,14 @@ impl From<fmt::Error> for PlanError {
     ghost from_gives = { λ _ r. r ≡ NoMemory };
 
     fn from(_error: fmt::Error) -> PlanError {
+        PlanError::NoMemory
+    }
+}
+
+impl From<AllocError> for PlanError {
+    ghost from_gives = { λ _ r. r ≡ NoMemory };
+
+    fn from(_error: AllocError) -> PlanError {
         PlanError::NoMemory
     }
 }

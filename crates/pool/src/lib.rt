@@ -1,5 +1,7 @@
 //! The pool of board blocks: which are taken, and the token of one that is.
 
+#![tactic(auto)]
+
 ghost use Rattle.std.specs.Prelude.{◌≡◌, false};
 ghost use Rattle.block_set.specs.Members.{member, without};
 ghost use Rattle.ledger.specs.Free.{free_from};

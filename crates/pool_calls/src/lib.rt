@@ -1,5 +1,7 @@
 //! Two pieces of code that call the pool, and treat its tokens as they must.
 
+#![tactic(auto)]
+
 ghost use Rattle.std.specs.Prelude.{◌≡◌};
 ghost use Rattle.ledger.specs.Free.{free_from};
 ghost use Rattle.maps.specs.Steps.{Outcome};

@@ -1,5 +1,7 @@
 //! The promise of a block store, of what really came.
 
+#![tactic(auto)]
+
 ghost use Rattle.pool.specs.Pool.{taken_in};
 ghost use Rattle.promise.specs.Ends.{Compared};
 ghost use Rattle.requests.specs.Requests.{asks, tells};

@@ -1,1 +1,4 @@
 //! What the console prints for a text, as definitions and laws.
+
+#![tactic(auto)]
+

@@ -1,5 +1,7 @@
 //! Requests to a block store, alone and in lists.
 
+#![tactic(auto)]
+
 ghost use Rattle.std.specs.Prelude.{◌≡◌};
 ghost use Rattle.ledger.specs.Store.{answer_to, buffer_after, state_after, outcome, final};
 ghost use Rattle.requests.specs.Requests.{asks, tells, calls_of};

@@ -1,4 +1,6 @@
 //! Straight runs of blocks cut into keys.
 
+#![tactic(auto)]
+
 pub mod run;
 pub mod walk;

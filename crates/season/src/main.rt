@@ -1,5 +1,7 @@
 //! Carries a season's picture, read from standard input, into a flat store, and prints what came of it.
 
+#![tactic(auto)]
+
 use blocks::BLOCK_BYTES;
 use carrying::{bytes_differing, carry_all};
 use flat::{FlatStore, Picture};

@@ -1,5 +1,7 @@
 //! The block store over any map, board and lower store.
 
+#![tactic(auto)]
+
 mod below;
 
 ghost use Rattle.std.specs.Prelude.{◌≡◌};

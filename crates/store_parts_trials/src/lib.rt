@@ -1,5 +1,7 @@
 //! Trials of boards and lower stores at the edges of their sizes.
 
+#![tactic(auto)]
+
 #[cfg(test)]
 mod boards_at_edges;
 #[cfg(test)]

@@ -1,5 +1,7 @@
 //! Block stores, by their meaning.
 
+#![tactic(auto)]
+
 ghost use Rattle.std.specs.Prelude.{◌≡◌, length};
 ghost use Rattle.ledger.specs.Sound.{Sound};
 ghost use Rattle.ledger.specs.Store.{Shape, State, write_answer, after_write, read_answer, read_buffer, clear_answer, after_clear, file_answer, after_remove, after_demote};

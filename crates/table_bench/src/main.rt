@@ -1,6 +1,8 @@
 //! How far look-ups go in a probing table that is half full, before and after a million puts and drops.
 //! Counts go to standard output, times to standard error.
 
+#![tactic(auto)]
+
 use blocks::Entry;
 use probing::table::ProbingTable;
 use std::time::Instant;

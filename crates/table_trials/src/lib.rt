@@ -1,5 +1,7 @@
 //! The key tables on examples, and on many random calls beside a map of the library.
 
+#![tactic(auto)]
+
 #[cfg(test)]
 mod tests {
     use blocks::Entry;

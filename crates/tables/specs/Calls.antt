@@ -15,7 +15,7 @@ abbrev pub ground_of_put : ℕ → ℕ → Bool → Option Ground
 ground_of_put file block full = first_ground ((nat_le 65536 file, File) ∷ (nat_le 65536 block, Block) ∷ (full, TableFull) ∷ [])
 
 -- a table's refusal of a call with this file and block
-abbrev pub fault_of : Ground → ℕ → ℕ → Fault
+abbrev pub fault_of : (ground : Ground) → ℕ → ℕ → Fault
 fault_of g file block = record { ground = g; layer = Table; file = file; block = block }
 
 -- What a table answers to a call with this file and block: the fault, if there is a ground to refuse it, else x.

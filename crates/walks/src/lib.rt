@@ -1,5 +1,7 @@
 //! What is done to all mapped blocks of a file, over any map, board and lower store.
 
+#![tactic(auto)]
+
 ghost use Rattle.std.specs.Prelude.{◌≡◌, ◌<◌};
 ghost use Rattle.block_set.specs.Members.{member};
 ghost use Rattle.blocks.specs.Blocks.{changed, only, inside, zero_block};

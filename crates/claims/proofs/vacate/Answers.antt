@@ -10,10 +10,10 @@ returns g c = record {
   room = λ v. c.clear.ensures.room ∙ (c.gather-leaving.ensures.map v).same_room;
   step = λ v lf le ln lm.
       let map = c.gather-leaving.ensures.map v in
-      let end : c.saturating-add.result ≡ c.args.first + c.args.n = omega (arith, c.saturating-add.ensures) in
+      let end : c.saturating_add.result ≡ c.args.first + c.args.n = omega (arith, c.saturating_add.ensures) in
       leaves g.M.Map.rule (g.M.Map.room c.args.map.now) (taken_in c.args.pool.now) (member c.gather-leaving.result.blocks)
       (g.M.Map.placed c.args.map.now) (g.M.Map.placed c.gather-leaving.new.map) (g.M.Map.placed c.clear.new.self)
-      (g.M.Map.room c.gather-leaving.new.map) c.args.file c.args.first c.args.n c.saturating-add.result c.gather-leaving.result.count c.clear.result
+      (g.M.Map.room c.gather-leaving.new.map) c.args.file c.args.first c.args.n c.saturating_add.result c.gather-leaving.result.count c.clear.result
       map.same_room map.same_place lf le ln lm end (c.gather-leaving.ensures.answer v) (c.clear.ensures.step map.stays_valid)
-      (taken_in c.give-back.new.self) c.in-ok-clear.field-0 c.in-ok-clear.was c.give-back.ensures;
+      (taken_in c.give_back.new.self) c.in_ok-clear.field-0 c.in_ok-clear.was c.give_back.ensures;
 }

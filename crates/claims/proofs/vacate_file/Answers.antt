@@ -10,8 +10,8 @@ returns g c = record {
   room = λ v. c.forget.ensures.room ∙ (c.gather-leaving.ensures.map v).same_room;
   step = λ v lf.
       let map = c.gather-leaving.ensures.map v in
-      leaves_file (taken_in c.args.pool.now) (taken_in c.give-back.new.self) (member c.gather-leaving.result.blocks)
+      leaves_file (taken_in c.args.pool.now) (taken_in c.give_back.new.self) (member c.gather-leaving.result.blocks)
       (g.M.Map.placed c.args.map.now) (g.M.Map.placed c.gather-leaving.new.map) (g.M.Map.placed c.forget.new.self)
       c.args.file c.args.width c.gather-leaving.result.count c.forget.result
-      map.same_place lf (c.gather-leaving.ensures.answer v) (c.forget.ensures.step map.stays_valid) c.give-back.ensures;
+      map.same_place lf (c.gather-leaving.ensures.answer v) (c.forget.ensures.step map.stays_valid) c.give_back.ensures;
 }

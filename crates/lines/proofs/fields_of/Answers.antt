@@ -8,26 +8,26 @@ use Rattle.lines.proofs.fields_of.Goals as goal
 pub loop-i-init : goal.loop-i-init
 loop-i-init g c = reading_start g.row.K (option_map (λ x. x.now) c.args.line) (replicate g.row.K 0) (length-replicate g.row.K 0)
 
-pub returns-in-err-rest : goal.returns-in-err-rest
-returns-in-err-rest g c =
-    c.from-residual.ensures
+pub returns-in_err-rest : goal.returns-in_err-rest
+returns-in_err-rest g c =
+    c.from_residual.ensures
     ∙ reading_short g.row.K (option_map (λ x. x.now) c.args.line) c.loop-i.numbers c.loop-i.i (option_map (λ x. x.now) c.loop-i.rest) c.loop-i.invariant
-    c.loop-i-test.true (ap (option_map (λ x. x.now)) c.in-err-rest.was)
+    c.loop-i-test.true (ap (option_map (λ x. x.now)) c.in_err-rest.was)
 
-pub returns-in-err-numbers : goal.returns-in-err-numbers
-returns-in-err-numbers g c =
-    c.from-residual-in-err-numbers.ensures
+pub returns-in_err-numbers : goal.returns-in_err-numbers
+returns-in_err-numbers g c =
+    c.from_residual-in_err-numbers.ensures
     ∙ reading_bad g.row.K (option_map (λ x. x.now) c.args.line) c.loop-i.numbers c.loop-i.i (option_map (λ x. x.now) c.loop-i.rest) c.loop-i.invariant
-    c.in-ok-rest.field-0.now c.loop-i-test.true (ap (option_map (λ x. x.now)) c.in-ok-rest.was)
-    (ap number (sym c.cut-parts.ensures.front) ∙ sym c.in-err-numbers.ensures)
+    c.in_ok-rest.field-0.now c.loop-i-test.true (ap (option_map (λ x. x.now)) c.in_ok-rest.was)
+    (ap number (sym c.cut-parts.ensures.front) ∙ sym c.in_err-numbers.ensures)
 
 pub loop-i-preserved : goal.loop-i-preserved
 loop-i-preserved g c =
-    subst (Reading g.row.K (option_map (λ x. x.now) c.args.line) (set c.loop-i.numbers c.loop-i.i c.in-ok-numbers.field-0) (c.loop-i.i + 1))
+    subst (Reading g.row.K (option_map (λ x. x.now) c.args.line) (set c.loop-i.numbers c.loop-i.i c.in_ok-numbers.field-0) (c.loop-i.i + 1))
     (sym c.cut-parts.ensures.rest)
     (reading_next g.row.K (option_map (λ x. x.now) c.args.line) c.loop-i.numbers c.loop-i.i (option_map (λ x. x.now) c.loop-i.rest) c.loop-i.invariant
-    c.in-ok-rest.field-0.now c.in-ok-numbers.field-0 c.loop-i-test.true (ap (option_map (λ x. x.now)) c.in-ok-rest.was)
-    (ap number (sym c.cut-parts.ensures.front) ∙ sym c.in-ok-numbers.ensures))
+    c.in_ok-rest.field-0.now c.in_ok-numbers.field-0 c.loop-i-test.true (ap (option_map (λ x. x.now)) c.in_ok-rest.was)
+    (ap number (sym c.cut-parts.ensures.front) ∙ sym c.in_ok-numbers.ensures))
 
 pub returns-in-Some : goal.returns-in-Some
 returns-in-Some g c =

@@ -20,7 +20,7 @@ loop-digit-preserved c =
 
 pub returns : goal.returns
 returns c = valued c.args.field.now c.loop-digit.digit-index c.loop-digit.value c.loop-digit-test.false c.loop-digit.invariant
-    (shaped_yes c.args.field.now (sym c.if-is-empty.ensures) c.if-field-gt-MOST-DIGITS.false
+    (shaped_yes c.args.field.now (sym c.if-is_empty.ensures) c.if-field-gt-MOST_DIGITS.false
     (elim c.else-field-gt1.branch [
       | else-field-gt1-via-then-field-gt1+else-field-eq-ZERO w ↦ inr w.if-field-eq-ZERO.false
       | else-field-gt1-via-else-field-gt1 w ↦ inl w.if-field-gt1.false

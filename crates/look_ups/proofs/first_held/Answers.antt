@@ -15,12 +15,12 @@ returns-in-Some g c v =
 pub returns-then-start-eq0 : goal.returns-then-start-eq0
 returns-then-start-eq0 g c v =
     let h = looking_end (g.K.Keys.table c.args.keys.now) c.args.block c.loop-entry.tried c.loop-entry.start
-    (c.loop-entry.invariant.1 v) (sym (c.in-default.ensures v)) c.if-start-eq0.true in
+    (c.loop-entry.invariant.1 v) (sym (c.in_default.ensures v)) c.if-start-eq0.true in
     λ j. record { key = sym h.0 j; tried = sym h.1 j }
 
 pub loop-entry-preserved : goal.loop-entry-preserved
 loop-entry-preserved g c = (
   along_next c.loop-entry.tried c.loop-entry.start c.loop-entry.invariant.0 c.if-start-eq0.false,
   (λ v. looking_next (g.K.Keys.table c.args.keys.now) c.args.block c.loop-entry.tried c.loop-entry.start
-      c.loop-entry.invariant.0 (c.loop-entry.invariant.1 v) (sym (c.in-default.ensures v)) c.if-start-eq0.false),
+      c.loop-entry.invariant.0 (c.loop-entry.invariant.1 v) (sym (c.in_default.ensures v)) c.if-start-eq0.false),
 )

@@ -5,5 +5,5 @@ use Rattle.look_ups.proofs.look_up.Goals as goal
 pub returns : goal.returns
 unfolding lookup
 returns g c v =
-    let h = c.first-held-held.ensures v in
-    λ j. record { board = (c.board-by.ensures ∙ ap (λ k. says k.key c.args.block) h) j; tried = (h j).tried }
+    let h = c.first_held-held.ensures v in
+    λ j. record { board = (c.board_by.ensures ∙ ap (λ k. says k.key c.args.block) h) j; tried = (h j).tried }

@@ -6,8 +6,8 @@ use Rattle.paths.proofs.path_length.Goals as goal
 pub returns-then-block-gt65535 : goal.returns-then-block-gt65535
 returns-then-block-gt65535 c = length_past c.args.block (omega arith)
 
-pub overflow-add-result : goal.overflow-add-result
-overflow-add-result c = let h = low_ones c.args.block in search rules
+pub overflow_add-result : goal.overflow_add-result
+overflow_add-result c = let h = low_ones c.args.block in search rules
 
 pub returns : goal.returns
 returns c = length_here c.args.block (omega arith)

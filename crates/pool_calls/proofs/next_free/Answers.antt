@@ -7,10 +7,10 @@ use Rattle.pool_calls.proofs.next_free.Goals as goal
 pub returns : goal.returns
 returns c =
     let t = taken_in c.args.pool.now in
-    let e : free_from t (board_size c.args.size) c.args.goal ≡ Some c.in-ok-token.token.number =
-    sym c.take.ensures.found ∙ ap number_in c.in-ok-token.was in
+    let e : free_from t (board_size c.args.size) c.args.goal ≡ Some c.in_ok-token.token.number =
+    sym c.take.ensures.found ∙ ap number_in c.in_ok-token.was in
     record {
       answer = ap Some c.number-number.ensures ∙ sym e;
-      same = handed_back t (taken_in c.take.new.self) (taken_in c.hand-back.new.self) (board_size c.args.size) c.args.goal
-          c.in-ok-token.token.number e c.take.ensures.after c.hand-back.ensures;
+      same = handed_back t (taken_in c.take.new.self) (taken_in c.hand_back.new.self) (board_size c.args.size) c.args.goal
+          c.in_ok-token.token.number e c.take.ensures.after c.hand_back.ensures;
     }

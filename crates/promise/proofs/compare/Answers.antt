@@ -3,11 +3,11 @@ use Rattle.promise.proofs.compare.Goals as goal
 
 pub returns : goal.returns
 returns g c = λ map board lower map' board' lower'.
-    let club = c.new-at-club.ensures map board lower in
+    let club = c.new-at_club.ensures map board lower in
     let own = c.run.ensures in
     let later = c.run-3.ensures in
     let v = own.kept club.valid in
-    let server = c.new-at-server.ensures map' board' lower' in
+    let server = c.new-at_server.ensures map' board' lower' in
     let own' = c.run-2.ensures in
     let later' = c.run-4.ensures in
     let v' = own'.kept server.valid in

@@ -16,7 +16,7 @@ loop-at-preserved g c = (
       let granted = turn_grants _ _ _ _ _ _ _ _ low _ _ _ _ c.args.file c.loop-at.from m.same_place b.same_size b.same_block going reach c.in-Some.at.block c.in-Some.at.board lf found.0 in
       turn_copies _ _ _ _ _ _ _ _ low _ _ _ _ c.args.file c.loop-at.from m.same_place b.same_size b.same_block going reach c.in-Some.at.block c.in-Some.at.board _ _ _ _
       c.in-Some.ensures.within.0 found
-      (c.copy-block.ensures.lower b.stays_valid going.stays_valid (omega arith) (omega arith) (omega arith))),
+      (c.copy_block.ensures.lower b.stays_valid going.stays_valid (omega arith) (omega arith) (omega arith))),
 )
 
 pub returns : goal.returns
@@ -27,7 +27,7 @@ returns g c = record {
       let b = c.loop-at.invariant.1 vb in
       let going = c.loop-at.invariant.2 vm vb vl lf reach in
       end_copies _ _ _ _ _ _ _ _ low _ _ _ _ c.args.file c.loop-at.from m.same_place b.same_size b.same_block going reach
-      (subst (Hole (g.M.Map.placed c.loop-at.map c.args.file) c.loop-at.from) (c.width-width.ensures.answer vl) (c.in-default.ensures.answer m.stays_valid));
+      (subst (Hole (g.M.Map.placed c.loop-at.map c.args.file) c.loop-at.from) (c.width-width.ensures.answer vl) (c.in_default.ensures.answer m.stays_valid));
   board = λ v. c.loop-at.invariant.1 v;
   map = search rules;
 }

@@ -29,7 +29,7 @@ pub returns : goal.returns
 returns g c = record {
   answer = λ v.
       let m = c.loop-at.invariant.1 v in
-      let hole = subst (λ (p : Placement). Hole (p c.args.file) c.loop-at.next c.args.to) m.same_place (c.in-default.ensures.answer m.stays_valid) in
+      let hole = subst (λ (p : Placement). Hole (p c.args.file) c.loop-at.next c.args.to) m.same_place (c.in_default.ensures.answer m.stays_valid) in
       gather_all (g.M.Map.placed c.args.map.now c.args.file) c.args.from c.args.to c.loop-at.next (member c.loop-at.blocks) c.loop-at.count hole (c.loop-at.invariant.2 v);
   map = search rules;
 }

@@ -4,8 +4,8 @@ use Rattle.tables.proofs.Lowest.{lowest_when_none}
 use Rattle.block_map.specs.Extending.{drop_next, drop_all}
 use Rattle.block_map.proofs.keys.drop_file.Goals as goal
 
-pub returns-in-default : goal.returns-in-default
-returns-in-default g c =
+pub returns-in_default : goal.returns-in_default
+returns-in_default g c =
     let i = c.loop-from.invariant in
     record {
       kept = λ v. (i.2 v).0;
@@ -13,7 +13,7 @@ returns-in-default g c =
       after = λ v.
           drop_all (g.T.Table.holding c.args.table.now) (g.T.Table.holding c.loop-from.table) c.args.file c.loop-from.from
           (g.met.T.Table.numbered c.args.table.now v) (i.2 v).1
-          (lowest_when_none (g.T.Table.holding c.loop-from.table) c.args.file c.loop-from.from (sym (c.in-default.ensures (i.2 v).0)));
+          (lowest_when_none (g.T.Table.holding c.loop-from.table) c.args.file c.loop-from.from (sym (c.in_default.ensures (i.2 v).0)));
     }
 
 pub loop-from-preserved : goal.loop-from-preserved

@@ -9,8 +9,8 @@ use Rattle.block_set.proofs.BlockSet.first_absent.Goals.{In-Some}
 seen : (c : In-Some) → Word c.args.self.now.words c.loop-next.next (Some c.in-Some.bit)
 seen c = in_word c.args.self.now.words c.loop-next.next (Some c.in-Some.bit) c.in-Some.ensures
 
-pub overflow-add-number : goal.overflow-add-number
-overflow-add-number c = let w = seen (goal.at.overflow-add-number c).In-Some in omega (arith, w.0)
+pub overflow_add-number : goal.overflow_add-number
+overflow_add-number c = let w = seen (goal.at.overflow_add-number c).In-Some in omega (arith, w.0)
 
 pub returns-then-number-limit : goal.returns-then-number-limit
 returns-then-number-limit c =
@@ -31,7 +31,7 @@ returns-else-number-limit c =
 
 pub loop-next-preserved : goal.loop-next-preserved
 loop-next-preserved c =
-    let w : Word c.args.self.now.words c.loop-next.next None = in_word c.args.self.now.words c.loop-next.next None c.in-default.ensures in (
+    let w : Word c.args.self.now.words c.loop-next.next None = in_word c.args.self.now.words c.loop-next.next None c.in_default.ensures in (
       omega (arith, c.loop-next.invariant.0),
       joined (member c.args.self.now) c.args.from c.loop-next.next ((c.loop-next.next / 64 + 1) * 64) c.loop-next.invariant.1 w,
     )

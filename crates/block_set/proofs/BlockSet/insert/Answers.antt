@@ -5,7 +5,7 @@ use Rattle.block_set.proofs.BlockSet.insert.Goals as goal
 
 pub returns-then-number-lt4096 : goal.returns-then-number-lt4096
 returns-then-number-lt4096 c =
-    change_one c.args.self.now.words c.args.number c.with-bit.result true (omega arith) c.with-bit.ensures
+    change_one c.args.self.now.words c.args.number c.with_bit.result true (omega arith) c.with_bit.ensures
     ∙ sym (cond-true _ _ _ (lt-ltb c.args.number 4096 (omega arith)))
 
 pub returns-else-number-lt4096 : goal.returns-else-number-lt4096

@@ -11,5 +11,5 @@ returns c =
     let within : number < size_in memory = search rules in
     record {
       answer = search rules;
-      buffer = c.copy-from-slice.ensures.after ∙ (block_cut memory number (number * 4096) refl ∙ sym (block_is memory number within));
+      buffer = c.copy_from_slice.ensures.after ∙ (block_cut memory number (number * 4096) refl ∙ sym (block_is memory number within));
     }

@@ -10,13 +10,13 @@ returns c =
     let memory = c.args.self.now.bytes.now in
     let new = c.args.from.now in
     let number = c.args.number in
-    let e = c.copy-from-slice.ensures.after in
+    let e = c.copy_from_slice.ensures.after in
     let n = ap length e in
-    let brought = granted c.blocks-2.result number (length new) c.in-ok-admit.ensures in
+    let brought = granted c.blocks-2.result number (length new) c.in_ok-admit.ensures in
     let within : number < size_in memory = omega (arith, c.blocks-2.ensures.answer tt) in
     let whole = brought.1 in
     let written =
-    overlaid_put memory c.copy-from-slice.new.self (number * 4096) ((number * 4096 + 4096) - number * 4096) (omega arith)
+    overlaid_put memory c.copy_from_slice.new.self (number * 4096) ((number * 4096 + 4096) - number * 4096) (omega arith)
     ∙ ap (overlaid memory (number * 4096)) e in
     record {
       meaning = λ _. record {

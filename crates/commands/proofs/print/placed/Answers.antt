@@ -11,8 +11,8 @@ returns c =
     let end : List ℕ = b ++ (10 ∷ []) in
     let later : List ℕ = codes " tried " ++ end in
     from_new c.new-text.result c.push.new.self (codes "at " ++ (a ++ later)) c.new-text.ensures
-    (added_both c.new-text.result c.push-all.new.self c.push.new.self (codes "at ") (a ++ later) c.push-all.ensures
-    (added_both c.push-all.new.self c.push-number.new.self c.push.new.self a later c.push-number.ensures
-    (added_both c.push-number.new.self c.push-all-2.new.self c.push.new.self (codes " tried ") end c.push-all-2.ensures
-    (added_both c.push-all-2.new.self c.push-number-2.new.self c.push.new.self b (10 ∷ []) c.push-number-2.ensures c.push.ensures))))
+    (added_both c.new-text.result c.push_all.new.self c.push.new.self (codes "at ") (a ++ later) c.push_all.ensures
+    (added_both c.push_all.new.self c.push_number.new.self c.push.new.self a later c.push_number.ensures
+    (added_both c.push_number.new.self c.push_all-2.new.self c.push.new.self (codes " tried ") end c.push_all-2.ensures
+    (added_both c.push_all-2.new.self c.push_number-2.new.self c.push.new.self b (10 ∷ []) c.push_number-2.ensures c.push.ensures))))
     (omega (arith, length-append a later, length-append b (10 ∷ [])))

@@ -6,39 +6,39 @@ use Rattle.console.specs.Calls.{placed_by}
 use Rattle.console.proofs.Turns.{turned}
 use Rattle.console.proofs.printing.answer_lines.Given as given
 use Rattle.console.proofs.printing.answer_lines.Goals as goal
-use Rattle.console.proofs.printing.answer_lines.Goals.{After-as-bytes}
+use Rattle.console.proofs.printing.answer_lines.Goals.{After-as_bytes}
 
 pub loop-line-init : goal.loop-line-init
 loop-line-init g c =
-    let whole : unread c.into-iter-line-iterator.result ≡ c.args.input.now = search rules in (
+    let whole : unread c.into_iter-line-iterator.result ≡ c.args.input.now = search rules in (
       c.requires.ready,
-      printing_start c.args.input.now c.args.output.now (unread c.into-iter-line-iterator.result) (placed_by g.T.Table.holding c.args.map.now)
+      printing_start c.args.input.now c.args.output.now (unread c.into_iter-line-iterator.result) (placed_by g.T.Table.holding c.args.map.now)
           c.requires.fresh whole c.requires.room,
     )
 
 -- the line of a turn is answered
-turn : (g : given.Over) (c : goal.After-as-bytes g)
-    → Turn (placed_by g.T.Table.holding c.loop-line.map) c.in-Some.line.now c.as-bytes.result.now (placed_by g.T.Table.holding c.reply-to-reply.new.map)
+turn : (g : given.Over) (c : goal.After-as_bytes g)
+    → Turn (placed_by g.T.Table.holding c.loop-line.map) c.in-Some.line.now c.as_bytes.result.now (placed_by g.T.Table.holding c.reply_to-reply.new.map)
 turn g c =
     let ready = c.loop-line.invariant.0 in
-    turned g.T.Table.valid g.T.Table.holding g.T.Table.places g.met.T.Table.bounded c.loop-line.map c.reply-to-reply.new.map
-    ready (c.reply-to-reply.ensures.kept ready) c.in-Some.line.now
-    c.reply-to-reply.result (c.reply-to-reply.ensures.step ready) c.as-bytes.result.now (◌∙◌ {c = reply_text c.reply-to-reply.result} c.as-bytes.ensures c.text-of-text.ensures)
+    turned g.T.Table.valid g.T.Table.holding g.T.Table.places g.met.T.Table.bounded c.loop-line.map c.reply_to-reply.new.map
+    ready (c.reply_to-reply.ensures.kept ready) c.in-Some.line.now
+    c.reply_to-reply.result (c.reply_to-reply.ensures.step ready) c.as_bytes.result.now (◌∙◌ {c = reply_text c.reply_to-reply.result} c.as_bytes.ensures c.text_of-text.ensures)
 
 pub put-printed-requires : goal.put-printed-requires
 put-printed-requires g c =
     let s = c.in-Some.ensures.steps in
     printing_fits c.args.input.now c.args.output.now (placed_by g.T.Table.holding c.loop-line.map) c.loop-line.output c.loop-line.printed
     (unread c.loop-line.line-iterator) c.loop-line.invariant.1 (unread_some c.loop-line.line-iterator s.0) c.in-Some.line.now s.1
-    c.as-bytes.result.now (placed_by g.T.Table.holding c.reply-to-reply.new.map) (turn g c)
+    c.as_bytes.result.now (placed_by g.T.Table.holding c.reply_to-reply.new.map) (turn g c)
 
 pub loop-line-preserved : goal.loop-line-preserved
 loop-line-preserved g c =
     let s = c.in-Some.ensures.steps in (
-      c.reply-to-reply.ensures.kept c.loop-line.invariant.0,
+      c.reply_to-reply.ensures.kept c.loop-line.invariant.0,
       printing_next c.args.input.now c.args.output.now (placed_by g.T.Table.holding c.loop-line.map) c.loop-line.output c.loop-line.printed
           (unread c.loop-line.line-iterator) c.loop-line.invariant.1 (unread_some c.loop-line.line-iterator s.0) c.in-Some.line.now s.1
-          c.as-bytes.result.now (placed_by g.T.Table.holding c.reply-to-reply.new.map) (turn g (goal.at.loop-line-preserved g c).After-as-bytes)
+          c.as_bytes.result.now (placed_by g.T.Table.holding c.reply_to-reply.new.map) (turn g (goal.at.loop-line-preserved g c).After-as_bytes)
           (unread c.next.new.self) s.2 c.put-printed.new.buffer c.put-printed.ensures.after c.put-printed.result c.put-printed.ensures.end,
     )
 

@@ -7,9 +7,9 @@ pub returns : goal.returns
 returns c =
     let at = c.args.at in
     let text = c.args.text.now in
-    let e = c.copy-from-slice.ensures.after in
+    let e = c.copy_from_slice.ensures.after in
     let n = ap length e in
     record {
       end = refl;
-      after = overlaid_put c.args.buffer.now c.copy-from-slice.new.self at ((at + length text) - at) (omega arith) ∙ ap (overlaid c.args.buffer.now at) e;
+      after = overlaid_put c.args.buffer.now c.copy_from_slice.new.self at ((at + length text) - at) (omega arith) ∙ ap (overlaid c.args.buffer.now at) e;
     }

@@ -5,10 +5,10 @@ use Rattle.extent_map.proofs.edges.leftward.Goals as goal
 pub loop-x-init : goal.loop-x-init
 loop-x-init g c = (omega arith, refl, (λ v h. lefting_start _ c.args.first c.args.board))
 
-pub returns-in-default : goal.returns-in-default
-returns-in-default g c =
+pub returns-in_default : goal.returns-in_default
+returns-in_default g c =
     let i = c.loop-x.invariant in
-    record { range = (i.0, i.1); found = λ v h. left_hole _ c.args.first c.loop-x.x c.loop-x.at (i.2 v h) (c.in-default.ensures.found v h) }
+    record { range = (i.0, i.1); found = λ v h. left_hole _ c.args.first c.loop-x.x c.loop-x.at (i.2 v h) (c.in_default.ensures.found v h) }
 
 pub returns-then-lowest-x : goal.returns-then-lowest-x
 returns-then-lowest-x g c =

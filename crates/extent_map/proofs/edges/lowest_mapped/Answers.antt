@@ -11,16 +11,16 @@ returns-in-Some g c =
     λ v h. lowest_here _ c.args.first c.args.n _ c.requires.0 (key_block _ k.start k.length k.board c.args.first (e.found v h) s.0 s.1)
 
 pub returns-then-n-eq1 : goal.returns-then-n-eq1
-returns-then-n-eq1 g c = λ v h. lowest_one _ h c.args.file c.args.first c.args.n (c.in-default.ensures.found v h) (omega arith)
+returns-then-n-eq1 g c = λ v h. lowest_one _ h c.args.file c.args.first c.args.n (c.in_default.ensures.found v h) (omega arith)
 
-pub returns-in-default-first-from : goal.returns-in-default-first-from
-returns-in-default-first-from g c =
-    λ v h. lowest_end _ h c.args.file c.args.first c.args.n (c.in-default.ensures.found v h) (c.in-default-first-from.ensures v) c.requires.1
+pub returns-in_default-first_from : goal.returns-in_default-first_from
+returns-in_default-first_from g c =
+    λ v h. lowest_end _ h c.args.file c.args.first c.args.n (c.in_default.ensures.found v h) (c.in_default-first_from.ensures v) c.requires.1
 
 pub returns-then-start-first : goal.returns-then-start-first
 returns-then-start-first g c =
-    λ v h. lowest_key _ h c.args.file c.args.first c.args.n (c.in-default.ensures.found v h) c.in-Some-first-from.row (c.in-Some-first-from.ensures v) (omega arith) c.if-start-first.true
+    λ v h. lowest_key _ h c.args.file c.args.first c.args.n (c.in_default.ensures.found v h) c.in-Some-first_from.row (c.in-Some-first_from.ensures v) (omega arith) c.if-start-first.true
 
 pub returns-else-start-first : goal.returns-else-start-first
 returns-else-start-first g c =
-    λ v h. lowest_past _ h c.args.file c.args.first c.args.n (c.in-default.ensures.found v h) c.in-Some-first-from.row (c.in-Some-first-from.ensures v) (omega arith) c.if-start-first.false
+    λ v h. lowest_past _ h c.args.file c.args.first c.args.n (c.in_default.ensures.found v h) c.in-Some-first_from.row (c.in-Some-first_from.ensures v) (omega arith) c.if-start-first.false

@@ -10,7 +10,7 @@ returns-in-Some c = record {
 
 pub returns : goal.returns
 returns c =
-    let e = c.in-default.ensures in
+    let e = c.in_default.ensures in
     let r = e.range in
     record {
       answer = assign_good c.args.file c.args.first c.args.n c.args.board e.answer (omega arith);

@@ -31,7 +31,7 @@ loop-x-preserved g c =
       omega (arith, s.range),
       (λ v h bar. (
         s.range.1,
-        ap (λ u. c.loop-x.count + tally u) (skipped _ c.args.file c.args.l c.loop-x.x c.args.r c.seek-x.result (omega arith) s.range.0 (c.in-default.ensures v) (s.sought v)) ∙ (i.1 v h bar).1,
+        ap (λ u. c.loop-x.count + tally u) (skipped _ c.args.file c.args.l c.loop-x.x c.args.r c.seek-x.result (omega arith) s.range.0 (c.in_default.ensures v) (s.sought v)) ∙ (i.1 v h bar).1,
       )),
     )
 

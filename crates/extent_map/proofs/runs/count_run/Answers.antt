@@ -14,9 +14,9 @@ loop-x-init c =
 pub loop-x-preserved : goal.loop-x-preserved
 loop-x-preserved c =
     let x = c.loop-x.x in
-    let s = c.piece-length-x.result in
+    let s = c.piece_length-x.result in
     let i = c.loop-x.invariant in
-    let size = next_piece x c.args.r s (omega arith) c.piece-length-x.ensures in (
+    let size = next_piece x c.args.r s (omega arith) c.piece_length-x.ensures in (
       omega arith,
       omega arith,
       (λ m p lay.
@@ -34,8 +34,8 @@ returns c =
       count = λ m p lay file lf h em. (i.2 m p lay).1 file lf h em ∙ ap (λ y. tally (blend file c.args.l y (key_at m) h)) e;
     }
 
-pub overflow-add-x : goal.overflow-add-x
-overflow-add-x c = let size = next_piece c.loop-x.x c.args.r c.piece-length-x.result (omega arith) c.piece-length-x.ensures in omega arith
+pub overflow_add-x : goal.overflow_add-x
+overflow_add-x c = let size = next_piece c.loop-x.x c.args.r c.piece_length-x.result (omega arith) c.piece_length-x.ensures in omega arith
 
 pub loop-x-smaller : goal.loop-x-smaller
-loop-x-smaller c = let size = next_piece c.loop-x.x c.args.r c.piece-length-x.result (omega arith) c.piece-length-x.ensures in omega arith
+loop-x-smaller c = let size = next_piece c.loop-x.x c.args.r c.piece_length-x.result (omega arith) c.piece_length-x.ensures in omega arith

@@ -37,7 +37,7 @@ loop-x-preserved g c =
       omega (arith, s.range),
       (λ v h bar.
           let old = i.3 v h bar in
-          let at = c.in-default.ensures (i.0 v) ∙ same_beyond _ _ c.args.file c.args.l x x old.1 (omega arith) in
+          let at = c.in_default.ensures (i.0 v) ∙ same_beyond _ _ c.args.file c.args.l x x old.1 (omega arith) in
           let back = sought_back _ _ c.args.file c.args.l x (x + 1) c.args.r c.seek-x.result old.1 (omega arith) s.range.0 (s.sought (i.0 v)) in (
             s.range.1,
             old.1 ∙ sym (skipped _ c.args.file c.args.l x c.args.r c.seek-x.result i.2 s.range.0 at back),

@@ -11,9 +11,9 @@ returns-then-held-more g c =
       room = refl;
       after = λ v h n w. (
         refused _ h n c.args.file c.args.l c.args.a c.args.p c.args.b c.args.q c.args.r q w
-            c.count-run.result c.count-run-2.result c.count-keys-less.result c.held.result _
-            c.count-run.ensures.count c.count-run-2.ensures.count (c.count-keys-less.ensures v h w.right) (c.held.ensures v)
-            (subst (λ k. k + c.count-keys-less.result < c.held.result + (c.count-run.result + c.count-run-2.result)) c.room.ensures c.if-held-more.true),
+            c.count_run.result c.count_run-2.result c.count_keys-less.result c.held.result _
+            c.count_run.ensures.count c.count_run-2.ensures.count (c.count_keys-less.ensures v h w.right) (c.held.ensures v)
+            (subst (λ k. k + c.count_keys-less.result < c.held.result + (c.count_run.result + c.count_run-2.result)) c.room.ensures c.if-held-more.true),
         refl,
       );
     }
@@ -21,17 +21,17 @@ returns-then-held-more g c =
 pub returns : goal.returns
 returns g c =
     let q = c.requires in
-    let e₁ = c.drop-keys.ensures in
-    let e₂ = c.put-run.ensures in
-    let e₃ = c.put-run-2.ensures in
+    let e₁ = c.drop_keys.ensures in
+    let e₂ = c.put_run.ensures in
+    let e₃ = c.put_run-2.ensures in
     record {
       kept = λ v. e₃.kept (e₂.kept (e₁.kept v));
       room = e₃.room ∙ e₂.room ∙ e₁.room;
       after = λ v h n w.
           let o = enough _ h n c.args.file c.args.l c.args.a c.args.p c.args.b c.args.q c.args.r q w
-          c.count-run.result c.count-run-2.result c.count-keys-less.result c.held.result _
-          c.count-run.ensures.count c.count-run-2.ensures.count (c.count-keys-less.ensures v h w.right) (c.held.ensures v)
-          (subst (λ k. c.held.result + (c.count-run.result + c.count-run-2.result) ≤ k + c.count-keys-less.result) c.room.ensures c.if-held-more.false) in (
+          c.count_run.result c.count_run-2.result c.count_keys-less.result c.held.result _
+          c.count_run.ensures.count c.count_run-2.ensures.count (c.count_keys-less.ensures v h w.right) (c.held.ensures v)
+          (subst (λ k. c.held.result + (c.count_run.result + c.count_run-2.result) ≤ k + c.count_keys-less.result) c.room.ensures c.if-held-more.false) in (
             sym (le-leb _ _ o),
             laid_both _ h n c.args.file c.args.l c.args.a c.args.p c.args.b c.args.q c.args.r q w _ _ _ _ _ _
                 (e₁.after v h w.right) (e₂.after (e₁.kept v)) (e₃.after (e₂.kept (e₁.kept v))) e₁.room (e₂.room ∙ e₁.room) o,

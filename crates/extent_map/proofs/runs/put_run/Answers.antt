@@ -14,10 +14,10 @@ loop-x-init g c =
 pub loop-x-preserved : goal.loop-x-preserved
 loop-x-preserved g c =
     let x = c.loop-x.x in
-    let s = c.piece-length-length.result in
+    let s = c.piece_length-length.result in
     let i = c.loop-x.invariant in
     let e = c.store.ensures in
-    let size = next_piece x c.args.r s (omega arith) c.piece-length-length.ensures in (
+    let size = next_piece x c.args.r s (omega arith) c.piece_length-length.ensures in (
       (λ v. e.kept (i.0 v)),
       e.room ∙ i.1,
       omega arith,
@@ -44,14 +44,14 @@ returns g c =
           (i.5 v m lay lf em fits).1 ∙ ap (λ y. blend c.args.file c.args.l y (key_at m) (g.T.Table.holding c.args.table.now)) e;
     }
 
-pub overflow-cast-entry : goal.overflow-cast-entry
-overflow-cast-entry g c = let size = next_piece c.loop-x.x c.args.r c.piece-length-length.result (omega arith) c.piece-length-length.ensures in omega arith
+pub overflow_cast-entry : goal.overflow_cast-entry
+overflow_cast-entry g c = let size = next_piece c.loop-x.x c.args.r c.piece_length-length.result (omega arith) c.piece_length-length.ensures in omega arith
 
-pub overflow-add-x : goal.overflow-add-x
-overflow-add-x g c = let size = next_piece c.loop-x.x c.args.r c.piece-length-length.result (omega arith) c.piece-length-length.ensures in omega arith
+pub overflow_add-x : goal.overflow_add-x
+overflow_add-x g c = let size = next_piece c.loop-x.x c.args.r c.piece_length-length.result (omega arith) c.piece_length-length.ensures in omega arith
 
-pub overflow-add-at : goal.overflow-add-at
-overflow-add-at g c = let size = next_piece c.loop-x.x c.args.r c.piece-length-length.result (omega arith) c.piece-length-length.ensures in let i = c.loop-x.invariant in omega arith
+pub overflow_add-at : goal.overflow_add-at
+overflow_add-at g c = let size = next_piece c.loop-x.x c.args.r c.piece_length-length.result (omega arith) c.piece_length-length.ensures in let i = c.loop-x.invariant in omega arith
 
 pub loop-x-smaller : goal.loop-x-smaller
-loop-x-smaller g c = let size = next_piece c.loop-x.x c.args.r c.piece-length-length.result (omega arith) c.piece-length-length.ensures in omega arith
+loop-x-smaller g c = let size = next_piece c.loop-x.x c.args.r c.piece_length-length.result (omega arith) c.piece_length-length.ensures in omega arith

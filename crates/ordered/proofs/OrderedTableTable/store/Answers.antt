@@ -33,9 +33,9 @@ returns-else-len-self c =
     let h = c.in-Before.ensures in
     let y : Row = record { file = c.args.file; block = c.args.block; entry = c.args.entry } in
     let l : length xs < room = omega arith in
-    let done : Sound xs room cap → c.is-ok.result ≡ true = λ v. c.is-ok.ensures.value ∙ c.insert.ensures.succeeds (omega (arith, v.memory)) in
+    let done : Sound xs room cap → c.is_ok.result ≡ true = λ v. c.is_ok.ensures.value ∙ c.insert.ensures.succeeds (omega (arith, v.memory)) in
     let items : Sound xs room cap → vec_items c.insert.new.self ≡ insert xs c.in-Before.i y
-    = λ v. c.insert.ensures.items ∙ ap (λ (b : Bool). cond b (insert xs c.in-Before.i y) xs) (sym c.is-ok.ensures.value ∙ done v) in
+    = λ v. c.insert.ensures.items ∙ ap (λ (b : Bool). cond b (insert xs c.in-Before.i y) xs) (sym c.is_ok.ensures.value ∙ done v) in
     record {
       kept = λ v. (let e = items v in
           rw e (insert_sound xs c.args.file c.args.block c.in-Before.i c.args.entry room cap _ (omega arith) (omega arith) v h l c.insert.ensures.capacity));

@@ -10,31 +10,31 @@ returns-then-input c = record { answer = omega arith; all_right = (bounded_all n
 
 pub loop-line-init : goal.loop-line-init
 loop-line-init c =
-    planning_start c.args.input.now (string_bytes c.new-text.result) (unread c.into-iter-line-iterator.result) nothing (omega arith)
-    c.new-text.ensures.bytes (ap unread c.into-iter-line-iterator.ensures.into-iter-gives ∙ c.new-line-items.ensures) refl
+    planning_start c.args.input.now (string_bytes c.new-text.result) (unread c.into_iter-line-iterator.result) nothing (omega arith)
+    c.new-text.ensures.bytes (ap unread c.into_iter-line-iterator.ensures.into_iter-gives ∙ c.new-line-items.ensures) refl
 
-pub plan-line-requires : goal.plan-line-requires
-plan-line-requires c =
+pub plan_line-requires : goal.plan_line-requires
+plan_line-requires c =
     planning_room c.args.input.now (string_bytes c.loop-line.text) c.loop-line.counts (unread c.loop-line.line-iterator) c.loop-line.invariant
     (unread_some c.loop-line.line-iterator c.in-Some.ensures.steps.0)
 
 pub loop-line-preserved : goal.loop-line-preserved
 loop-line-preserved c =
     let s = c.in-Some.ensures.steps in
-    let e = c.in-ok-counts.ensures in
+    let e = c.in_ok-counts.ensures in
     planning_next c.args.input.now (string_bytes c.loop-line.text) c.loop-line.counts (unread c.loop-line.line-iterator) c.loop-line.invariant
-    c.in-Some.line.now (unread c.next.new.self) (string_bytes c.plan-line.new.text) c.in-ok-counts.counts
+    c.in-Some.line.now (unread c.next.new.self) (string_bytes c.plan_line.new.text) c.in_ok-counts.counts
     (unread_some c.loop-line.line-iterator s.0) s.1 s.2 e.0 e.1
 
-pub returns-in-err-counts : goal.returns-in-err-counts
-returns-in-err-counts c =
-    let p = err_from_is_err_and c.from-residual.result c.from-residual.ensures.1 in
-    record { answer = rw (p.1, p.2, c.in-err-counts.ensures) (omega arith); all_right = (bounded_all nothing (lines c.args.input.now) bounded_start).right }
+pub returns-in_err-counts : goal.returns-in_err-counts
+returns-in_err-counts c =
+    let p = err_from_is_err_and c.from_residual.result c.from_residual.ensures.1 in
+    record { answer = rw (p.1, p.2, c.in_err-counts.ensures) (omega arith); all_right = (bounded_all nothing (lines c.args.input.now) bounded_start).right }
 
-pub returns-in-err-write-summary : goal.returns-in-err-write-summary
-returns-in-err-write-summary c =
-    let p = err_from_is_err_and c.from-residual-in-err-write-summary.result c.from-residual-in-err-write-summary.ensures.1 in
-    record { answer = rw (p.1, p.2, c.in-err-write-summary.ensures) (omega arith); all_right = (bounded_all nothing (lines c.args.input.now) bounded_start).right }
+pub returns-in_err-write_summary : goal.returns-in_err-write_summary
+returns-in_err-write_summary c =
+    let p = err_from_is_err_and c.from_residual-in_err-write_summary.result c.from_residual-in_err-write_summary.ensures.1 in
+    record { answer = rw (p.1, p.2, c.in_err-write_summary.ensures) (omega arith); all_right = (bounded_all nothing (lines c.args.input.now) bounded_start).right }
 
 pub returns : goal.returns
 returns c =
@@ -42,6 +42,6 @@ returns c =
     let t = planning_text c.args.input.now (string_bytes c.loop-line.text) c.loop-line.counts (unread c.loop-line.line-iterator) c.loop-line.invariant s in
     let k = planning_counts c.args.input.now (string_bytes c.loop-line.text) c.loop-line.counts (unread c.loop-line.line-iterator) c.loop-line.invariant s in
     record {
-      answer = c.in-ok-write-summary.ensures ∙ ap (λ x. x ++ summary_text c.loop-line.counts) t ∙ ap (λ x. lines_text (lines c.args.input.now) ++ summary_text x) k;
+      answer = c.in_ok-write_summary.ensures ∙ ap (λ x. x ++ summary_text c.loop-line.counts) t ∙ ap (λ x. lines_text (lines c.args.input.now) ++ summary_text x) k;
       all_right = (bounded_all nothing (lines c.args.input.now) bounded_start).right;
     }

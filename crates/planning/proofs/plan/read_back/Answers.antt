@@ -10,9 +10,9 @@ loop-i-init c = back_start (table_of (vec_items c.args.keys.now)) c.args.run.fir
 
 pub loop-i-preserved : goal.loop-i-preserved
 loop-i-preserved c =
-    let found = c.look-up-found.ensures tt in
-    subst (Back (table_of (vec_items c.args.keys.now)) c.args.run.first c.args.run.board (c.loop-i.i + 1) (c.loop-i.right + c.one-if-at-right.result))
+    let found = c.look_up-found.ensures tt in
+    subst (Back (table_of (vec_items c.args.keys.now)) c.args.run.first c.args.run.board (c.loop-i.i + 1) (c.loop-i.right + c.one_if_at-right.result))
     (sym c.max-tried.ensures)
     (back_next (table_of (vec_items c.args.keys.now)) c.args.run.first c.args.run.board c.loop-i.i c.loop-i.right c.loop-i.tried
-    c.one-if-at-right.result c.look-up-found.result.tried c.loop-i.invariant
-    (c.one-if-at-right.ensures ∙ ap (λ f. one (is_at f.board (c.args.run.board + c.loop-i.i))) found) (ap (λ f. f.tried) found))
+    c.one_if_at-right.result c.look_up-found.result.tried c.loop-i.invariant
+    (c.one_if_at-right.ensures ∙ ap (λ f. one (is_at f.board (c.args.run.board + c.loop-i.i))) found) (ap (λ f. f.tried) found))

@@ -8,8 +8,8 @@ use Rattle.pool.proofs.Pool.take.Goals as goal
 pub returns : goal.returns
 returns c =
     let t = taken_in c.args.self.now in
-    let p = c.in-ok-number.number in
-    let e : free_from t (board_size c.args.size) c.args.goal ≡ Some p = sym c.nearest-free.ensures ∙ c.in-ok-number.was in
+    let p = c.in_ok-number.number in
+    let e : free_from t (board_size c.args.size) c.args.goal ≡ Some p = sym c.nearest_free.ensures ∙ c.in_ok-number.was in
     let f = found_free t (board_size c.args.size) c.args.goal p e in
     record {
       found = sym e;

@@ -47,8 +47,8 @@ loop-k-preserved-then-distance g c =
     let n = c.len-n.result in (
       c.loop-k.invariant.0,
       turn_stayed (λ f b. g.S.Spread.place c.args.spread.now f b c.args.room) n _ _ _ _ _ _ _ (next g c)
-          (λ p. let z : dist n c.place-of-home.result c.loop-k.hole < dist n c.place-of-home.result c.onward-place.result
-          = subst (λ (h : ℕ). dist n h c.loop-k.hole < dist n h c.onward-place.result) (sym c.place-of-home.ensures) p in
+          (λ p. let z : dist n c.place_of-home.result c.loop-k.hole < dist n c.place_of-home.result c.onward-place.result
+          = subst (λ (h : ℕ). dist n h c.loop-k.hole < dist n h c.onward-place.result) (sym c.place_of-home.ensures) p in
           omega (arith, c.distance.ensures, c.distance-in-loop-k.ensures, c.if-distance.true)),
     )
 
@@ -63,11 +63,11 @@ loop-k-preserved g c =
       read = c.slot-slot.ensures;
       is_used = not-false c.slot-slot.result.used c.if-not-slot.false;
     } in
-    let z : dist n c.place-of-home.result c.loop-k.hole < dist n c.place-of-home.result c.onward-place.result
+    let z : dist n c.place_of-home.result c.loop-k.hole < dist n c.place_of-home.result c.onward-place.result
     = omega (arith, c.distance.ensures, c.distance-in-loop-k.ensures, c.if-distance.false) in (
       c.loop-k.invariant.0,
       turn_moved (λ f b. g.S.Spread.place c.args.spread.now f b c.args.room) n _ _ _ _ _ _ _ _ _ s
-          (subst (λ (h : ℕ). dist n h c.loop-k.hole < dist n h c.onward-place.result) c.place-of-home.ensures z) c.fill.ensures c.clear.ensures,
+          (subst (λ (h : ℕ). dist n h c.loop-k.hole < dist n h c.onward-place.result) c.place_of-home.ensures z) c.fill.ensures c.clear.ensures,
     )
 
 pub returns : goal.returns

@@ -5,9 +5,9 @@ use Rattle.block_map.proofs.block_map.BlockMapMap.clear.Goals as goal
 pub returns : goal.returns
 returns g c =
     let h = g.T.Table.holding c.args.self.now.table in
-    let h' = g.T.Table.holding c.drop-keys.new.table in
-    let e = c.in-ok-check-extent.ensures in
-    let d = c.drop-keys.ensures in
+    let h' = g.T.Table.holding c.drop_keys.new.table in
+    let e = c.in_ok-check_extent.ensures in
+    let d = c.drop_keys.ensures in
     record {
       kept = λ v. (d.kept v.0, single_out h h' c.args.file (inside c.args.first c.args.n) (d.after v.0) v.1);
       room = d.room;

@@ -5,9 +5,9 @@ use Rattle.block_map.proofs.block_map.BlockMapMap.forget.Goals as goal
 pub returns : goal.returns
 returns g c =
     let h = g.T.Table.holding c.args.self.now.table in
-    let h' = g.T.Table.holding c.drop-file.new.table in
-    let e = c.in-ok-check-file.ensures in
-    let d = c.drop-file.ensures in
+    let h' = g.T.Table.holding c.drop_file.new.table in
+    let e = c.in_ok-check_file.ensures in
+    let d = c.drop_file.ensures in
     record {
       kept = λ v. (d.kept v.0, single_out h h' c.args.file every (d.after v.0) v.1);
       room = d.room;

@@ -6,7 +6,7 @@ use Rattle.block_map.proofs.block_map.BlockMapMap.next.Goals as goal
 pub returns-in-Some : goal.returns-in-Some
 returns-in-Some g c =
     let h = g.T.Table.holding c.args.self.now.table in
-    let e = c.in-ok-check-block.ensures in
+    let e = c.in_ok-check_block.ensures in
     record {
       kept = λ v. v;
       room = refl;
@@ -17,7 +17,7 @@ returns-in-Some g c =
 pub returns-in-None : goal.returns-in-None
 returns-in-None g c =
     let h = g.T.Table.holding c.args.self.now.table in
-    let e = c.in-ok-check-block.ensures in
+    let e = c.in_ok-check_block.ensures in
     record {
       kept = λ v. v;
       room = refl;

@@ -7,7 +7,7 @@ use Rattle.cached_map.proofs.cached.CachedMapMap.clear.Goals as goal
 
 pub returns : goal.returns
 returns g c =
-    let e = c.in-ok-clear.ensures in
+    let e = c.in_ok-clear.ensures in
     let p = g.M.Map.placed c.args.self.now.map in
     let q = g.M.Map.placed c.clear.new.self in
     record {

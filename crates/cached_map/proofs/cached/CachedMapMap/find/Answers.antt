@@ -31,10 +31,10 @@ returns-in-Some-found g c =
     let f = c.args.file in
     let b = c.args.block in
     let board = c.in-Some-found.board in
-    let e = c.in-ok-found.ensures in
+    let e = c.in_ok-found.ensures in
     let p = g.M.Map.placed c.args.self.now.map in
     let q = g.M.Map.placed c.find.new.self in
-    let said : ◌≡◌ {A = Result (Option ℕ) Fault} (Ok (Some board)) (Ok c.in-ok-found.found) = ap (λ (o : Option ℕ). Ok o) (sym c.in-Some-found.is) in
+    let said : ◌≡◌ {A = Result (Option ℕ) Fault} (Ok (Some board)) (Ok c.in_ok-found.found) = ap (λ (o : Option ℕ). Ok o) (sym c.in-Some-found.is) in
     record {
       kept = λ v. (
         e.kept v.0,
@@ -44,6 +44,6 @@ returns-in-Some-found g c =
       room = e.room;
       answer = λ v. said ∙ e.answer v.0;
       same = λ v. e.same v.0;
-      memory = c.remember.ensures ∙ ap (λ (o : Option ℕ). cond (is_some o) m (remembered m f b board)) c.in-default.ensures;
-      hit = λ k. absurd (false≢true (ap is_some c.in-default.ensures ∙ k));
+      memory = c.remember.ensures ∙ ap (λ (o : Option ℕ). cond (is_some o) m (remembered m f b board)) c.in_default.ensures;
+      hit = λ k. absurd (false≢true (ap is_some c.in_default.ensures ∙ k));
     }

@@ -7,5 +7,5 @@ returns-then-n-lt10 t c = added_digit c.args.self.now c.push.new.self c.args.n c
 
 pub returns-else-n-lt10 : goal.returns-else-n-lt10
 returns-else-n-lt10 t c =
-    added_more c.args.self.now c.push-number.new.self c.push-else-n-lt10.new.self c.args.n c.if-n-lt10.false (omega arith)
-    c.push-number.ensures c.push-else-n-lt10.ensures
+    added_more c.args.self.now c.push_number.new.self c.push-else-n-lt10.new.self c.args.n c.if-n-lt10.false (omega arith)
+    c.push_number.ensures c.push-else-n-lt10.ensures

@@ -14,9 +14,9 @@ returns-in-Some g c =
 pub returns : goal.returns
 returns g c = record {
   read = λ v. counted_found (g.T.Table.holding c.args.self.now.table) c.args.file c.args.block c.look.result
-      c.in-default.ensures.answer (c.look.ensures v);
+      c.in_default.ensures.answer (c.look.ensures v);
   answer = λ v h.
       counted_found (g.T.Table.holding c.args.self.now.table) c.args.file c.args.block c.look.result
-      c.in-default.ensures.answer (c.look.ensures v)
+      c.in_default.ensures.answer (c.look.ensures v)
       ∙ counted_same (g.T.Table.holding c.args.self.now.table) h c.args.file c.args.block;
 }

@@ -12,8 +12,8 @@ returns-then-mend g c =
       kept = λ w.
           let v = w.0 in
           let h = w.1 in
-          let r = c.in-default.ensures.range in
-          let free = c.in-default-lowest-mapped.ensures v h in
+          let r = c.in_default.ensures.range in
+          let free = c.in_default-lowest_mapped.ensures v h in
           let m = e.after v h (assigned (placing (g.T.Table.holding c.args.self.now.table)) c.args.file c.args.first c.args.n c.args.board)
           (assign_mending _ c.args.file c.args.first c.args.n c.args.board _ _ _ r.0 r.3 c.leftward-l.ensures.range.0 c.rightward-r.ensures.range.0 c.leftward-l.ensures.range.1 free (c.leftward-l.ensures.found v h)
           (c.rightward-r.ensures.found v h (after_extent _ c.args.first c.args.n r.3 free))) in
@@ -22,12 +22,12 @@ returns-then-mend g c =
       step = λ w.
           let v = w.0 in
           let h = w.1 in
-          let r = c.in-default.ensures.range in
-          let free = c.in-default-lowest-mapped.ensures v h in
+          let r = c.in_default.ensures.range in
+          let free = c.in_default-lowest_mapped.ensures v h in
           let m = e.after v h (assigned (placing (g.T.Table.holding c.args.self.now.table)) c.args.file c.args.first c.args.n c.args.board)
           (assign_mending _ c.args.file c.args.first c.args.n c.args.board _ _ _ r.0 r.3 c.leftward-l.ensures.range.0 c.rightward-r.ensures.range.0 c.leftward-l.ensures.range.1 free (c.leftward-l.ensures.found v h)
           (c.rightward-r.ensures.found v h (after_extent _ c.args.first c.args.n r.3 free))) in
-          granted_by (ground_of_assign c.args.file c.args.first c.args.n c.args.board) _ c.args.file c.args.first _ _ c.in-default.ensures.answer
+          granted_by (ground_of_assign c.args.file c.args.first c.args.n c.args.board) _ c.args.file c.args.first _ _ c.in_default.ensures.answer
           (unmapped_by (lowest_mapped_block (placing (g.T.Table.holding c.args.self.now.table) c.args.file) c.args.first c.args.n) _ c.args.file _ _ free
           (mended_ok _ _ _ _ c.args.file c.args.first m));
     }
@@ -39,8 +39,8 @@ returns-else-mend g c =
       kept = λ w.
           let v = w.0 in
           let h = w.1 in
-          let r = c.in-default.ensures.range in
-          let free = c.in-default-lowest-mapped.ensures v h in
+          let r = c.in_default.ensures.range in
+          let free = c.in_default-lowest_mapped.ensures v h in
           let m = e.after v h (assigned (placing (g.T.Table.holding c.args.self.now.table)) c.args.file c.args.first c.args.n c.args.board)
           (assign_mending _ c.args.file c.args.first c.args.n c.args.board _ _ _ r.0 r.3 c.leftward-l.ensures.range.0 c.rightward-r.ensures.range.0 c.leftward-l.ensures.range.1 free (c.leftward-l.ensures.found v h)
           (c.rightward-r.ensures.found v h (after_extent _ c.args.first c.args.n r.3 free))) in
@@ -49,12 +49,12 @@ returns-else-mend g c =
       step = λ w.
           let v = w.0 in
           let h = w.1 in
-          let r = c.in-default.ensures.range in
-          let free = c.in-default-lowest-mapped.ensures v h in
+          let r = c.in_default.ensures.range in
+          let free = c.in_default-lowest_mapped.ensures v h in
           let m = e.after v h (assigned (placing (g.T.Table.holding c.args.self.now.table)) c.args.file c.args.first c.args.n c.args.board)
           (assign_mending _ c.args.file c.args.first c.args.n c.args.board _ _ _ r.0 r.3 c.leftward-l.ensures.range.0 c.rightward-r.ensures.range.0 c.leftward-l.ensures.range.1 free (c.leftward-l.ensures.found v h)
           (c.rightward-r.ensures.found v h (after_extent _ c.args.first c.args.n r.3 free))) in
-          granted_by (ground_of_assign c.args.file c.args.first c.args.n c.args.board) _ c.args.file c.args.first _ _ c.in-default.ensures.answer
+          granted_by (ground_of_assign c.args.file c.args.first c.args.n c.args.board) _ c.args.file c.args.first _ _ c.in_default.ensures.answer
           (unmapped_by (lowest_mapped_block (placing (g.T.Table.holding c.args.self.now.table) c.args.file) c.args.first c.args.n) _ c.args.file _ _ free
           (mended_full _ _ _ _ c.args.file c.args.first _ c.refusal-else-mend.ensures m));
     }

@@ -12,18 +12,18 @@ returns-then-mend g c =
       kept = λ w.
           let v = w.0 in
           let h = w.1 in
-          let r = c.in-default.ensures.range in
+          let r = c.in_default.ensures.range in
           let m = e.after v h (cleared (placing (g.T.Table.holding c.args.self.now.table)) c.args.file c.args.first c.args.n)
-          (clear_mending _ c.args.file c.args.first c.args.n _ _ _ _ r.0 r.3 c.left-edge-l.ensures.range.0 c.right-edge-r.ensures.range.0 (c.left-edge-l.ensures.found v h) (c.right-edge-r.ensures.found v h)) in
+          (clear_mending _ c.args.file c.args.first c.args.n _ _ _ _ r.0 r.3 c.left_edge-l.ensures.range.0 c.right_edge-r.ensures.range.0 (c.left_edge-l.ensures.found v h) (c.right_edge-r.ensures.found v h)) in
           (e.kept v, subst Held (sym m.1) (held_cleared _ h c.args.file c.args.first c.args.n));
       room = e.room;
       step = λ w.
           let v = w.0 in
           let h = w.1 in
-          let r = c.in-default.ensures.range in
+          let r = c.in_default.ensures.range in
           let m = e.after v h (cleared (placing (g.T.Table.holding c.args.self.now.table)) c.args.file c.args.first c.args.n)
-          (clear_mending _ c.args.file c.args.first c.args.n _ _ _ _ r.0 r.3 c.left-edge-l.ensures.range.0 c.right-edge-r.ensures.range.0 (c.left-edge-l.ensures.found v h) (c.right-edge-r.ensures.found v h)) in
-          granted_by (ground_of_extent c.args.file c.args.first c.args.n) _ c.args.file c.args.first _ _ c.in-default.ensures.answer
+          (clear_mending _ c.args.file c.args.first c.args.n _ _ _ _ r.0 r.3 c.left_edge-l.ensures.range.0 c.right_edge-r.ensures.range.0 (c.left_edge-l.ensures.found v h) (c.right_edge-r.ensures.found v h)) in
+          granted_by (ground_of_extent c.args.file c.args.first c.args.n) _ c.args.file c.args.first _ _ c.in_default.ensures.answer
           (mended_ok _ _ _ _ c.args.file c.args.first m);
     }
 
@@ -34,17 +34,17 @@ returns-else-mend g c =
       kept = λ w.
           let v = w.0 in
           let h = w.1 in
-          let r = c.in-default.ensures.range in
+          let r = c.in_default.ensures.range in
           let m = e.after v h (cleared (placing (g.T.Table.holding c.args.self.now.table)) c.args.file c.args.first c.args.n)
-          (clear_mending _ c.args.file c.args.first c.args.n _ _ _ _ r.0 r.3 c.left-edge-l.ensures.range.0 c.right-edge-r.ensures.range.0 (c.left-edge-l.ensures.found v h) (c.right-edge-r.ensures.found v h)) in
+          (clear_mending _ c.args.file c.args.first c.args.n _ _ _ _ r.0 r.3 c.left_edge-l.ensures.range.0 c.right_edge-r.ensures.range.0 (c.left_edge-l.ensures.found v h) (c.right_edge-r.ensures.found v h)) in
           (e.kept v, subst Held (sym m.1) h);
       room = e.room;
       step = λ w.
           let v = w.0 in
           let h = w.1 in
-          let r = c.in-default.ensures.range in
+          let r = c.in_default.ensures.range in
           let m = e.after v h (cleared (placing (g.T.Table.holding c.args.self.now.table)) c.args.file c.args.first c.args.n)
-          (clear_mending _ c.args.file c.args.first c.args.n _ _ _ _ r.0 r.3 c.left-edge-l.ensures.range.0 c.right-edge-r.ensures.range.0 (c.left-edge-l.ensures.found v h) (c.right-edge-r.ensures.found v h)) in
-          granted_by (ground_of_extent c.args.file c.args.first c.args.n) _ c.args.file c.args.first _ _ c.in-default.ensures.answer
+          (clear_mending _ c.args.file c.args.first c.args.n _ _ _ _ r.0 r.3 c.left_edge-l.ensures.range.0 c.right_edge-r.ensures.range.0 (c.left_edge-l.ensures.found v h) (c.right_edge-r.ensures.found v h)) in
+          granted_by (ground_of_extent c.args.file c.args.first c.args.n) _ c.args.file c.args.first _ _ c.in_default.ensures.answer
           (mended_full _ _ _ _ c.args.file c.args.first _ c.refusal-else-mend.ensures m);
     }

@@ -7,7 +7,7 @@ use Rattle.extent_map.proofs.map.ExtentMapMap.forget.Goals as goal
 
 pub returns : goal.returns
 returns g c =
-    let e = c.drop-keys.ensures in
+    let e = c.drop_keys.ensures in
     record {
       kept = λ w.
           let after = e.after w.0 w.1 (barrier_multiple _ 65536 (16, refl)) ∙ forgotten_keys _ w.1 c.args.file in

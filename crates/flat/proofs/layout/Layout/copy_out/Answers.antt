@@ -16,16 +16,16 @@ returns-in-Some c =
     let at = start_is (length memory) width file block 1 c.in-Some.at c.in-Some.ensures in
     record {
       answer = search rules;
-      buffer = λ _. c.copy-from-slice.ensures.after ∙ (block_cut memory (index_of width file block) c.in-Some.at at ∙ sym (bytes_is memory files width file block lf lb));
+      buffer = λ _. c.copy_from_slice.ensures.after ∙ (block_cut memory (index_of width file block) c.in-Some.at at ∙ sym (bytes_is memory files width file block lf lb));
     }
 
-pub returns-in-default : goal.returns-in-default
-returns-in-default c =
+pub returns-in_default : goal.returns-in_default
+returns-in_default c =
     let files = c.args.self.now.files in
     let width = c.args.self.now.width in
     let lf : c.args.file < files = search rules in
     let lb : c.args.block < width = search rules in
     record {
       answer = search rules;
-      buffer = λ laid. absurd (has_start c.args.memory.now files width c.args.file c.args.block 1 laid lf (omega arith) (omega arith) c.in-default.ensures);
+      buffer = λ laid. absurd (has_start c.args.memory.now files width c.args.file c.args.block 1 laid lf (omega arith) (omega arith) c.in_default.ensures);
     }

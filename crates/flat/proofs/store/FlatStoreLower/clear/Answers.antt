@@ -35,13 +35,13 @@ returns-in-Some c =
       lender = search rules;
     }
 
-pub returns-in-default : goal.returns-in-default
-returns-in-default c =
+pub returns-in_default : goal.returns-in_default
+returns-in_default c =
     let memory = c.args.self.now.bytes.now in
     let files = c.args.self.now.layout.files in
     let width = c.args.self.now.layout.width in
     let lf : c.args.file < files = search rules in
     let l0 : 0 < c.args.n = search rules in
     let ln : c.args.first + c.args.n ≤ width = search rules in
-    let none = λ (laid : Laid memory files width). has_start memory files width c.args.file c.args.first c.args.n laid lf l0 ln c.in-default.ensures in
+    let none = λ (laid : Laid memory files width). has_start memory files width c.args.file c.args.first c.args.n laid lf l0 ln c.in_default.ensures in
     record { meaning = λ laid. absurd (none laid); memory = λ laid. absurd (none laid); lender = search rules }

@@ -16,11 +16,11 @@ returns-in-Some c =
     let at = c.in-Some.at in
     let lf : file < files = search rules in
     let lb : block < width = search rules in
-    let e = c.copy-from-slice.ensures.after in
+    let e = c.copy_from_slice.ensures.after in
     let n = ap length e in
     let full : length new ≡ 4096 = omega arith in
     let written =
-    overlaid_put memory c.copy-from-slice.new.self at ((at + 4096) - at) (omega arith)
+    overlaid_put memory c.copy_from_slice.new.self at ((at + 4096) - at) (omega arith)
     ∙ ap (overlaid memory at) e
     ∙ ap (λ (k : ℕ). overlaid memory k new) (start_is (length memory) width file block 1 at c.in-Some.ensures) in
     record {
@@ -35,12 +35,12 @@ returns-in-Some c =
       lender = search rules;
     }
 
-pub returns-in-default : goal.returns-in-default
-returns-in-default c =
+pub returns-in_default : goal.returns-in_default
+returns-in_default c =
     let memory = c.args.self.now.bytes.now in
     let files = c.args.self.now.layout.files in
     let width = c.args.self.now.layout.width in
     let lf : c.args.file < files = search rules in
     let lb : c.args.block < width = search rules in
-    let none = λ (laid : Laid memory files width). has_start memory files width c.args.file c.args.block 1 laid lf (omega arith) (omega arith) c.in-default.ensures in
+    let none = λ (laid : Laid memory files width). has_start memory files width c.args.file c.args.block 1 laid lf (omega arith) (omega arith) c.in_default.ensures in
     record { meaning = λ laid. absurd (none laid); memory = λ laid. absurd (none laid); lender = search rules }

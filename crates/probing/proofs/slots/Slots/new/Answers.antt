@@ -8,6 +8,6 @@ pub loop-i-preserved : goal.loop-i-preserved
 loop-i-preserved c = (
   search rules,
   search rules,
-  (let e = c.push-reserved.ensures.items in
+  (let e = c.push_reserved.ensures.items in
       subst (λ (ys : List Slot). (x : ℕ) → (slot_at ys x).used ≡ false) (sym e) (push_free (vec_items c.loop-i.slots) c.empty.result c.loop-i.invariant.2 (ap (λ (s : Slot). s.used) c.empty.ensures))),
 )

@@ -9,6 +9,6 @@ returns g c = λ v.
     let xs = vec_items c.args.self.now.slots.slots in
     let len : n ≡ room = omega (arith, v.long) in
     let below = g.met.S.Spread.below c.args.self.now.spread c.args.file c.args.block room in
-    c.looked.ensures (λ l. omega (arith, c.place-of-home.ensures, below (omega arith)))
-    ∙ ap (λ (m : ℕ). looked m xs c.place-of-home.result c.args.file c.args.block) len
-    ∙ ap (λ (h : ℕ). looked room xs h c.args.file c.args.block) c.place-of-home.ensures
+    c.looked.ensures (λ l. omega (arith, c.place_of-home.ensures, below (omega arith)))
+    ∙ ap (λ (m : ℕ). looked m xs c.place_of-home.result c.args.file c.args.block) len
+    ∙ ap (λ (h : ℕ). looked room xs h c.args.file c.args.block) c.place_of-home.ensures

@@ -11,12 +11,12 @@ returns-in-Some g c = λ v.
 pub loop-b-preserved : goal.loop-b-preserved
 loop-b-preserved g c = λ v x l m. elim (cases_lt x c.loop-b.b) [
   | inl k ↦ c.loop-b.invariant v x l k
-  | inr k ↦ ap (g.Self.Table.holding c.args.self.now c.args.file) (let e : x ≡ c.loop-b.b = omega arith in e) ∙ sym (c.in-default.ensures v)
+  | inr k ↦ ap (g.Self.Table.holding c.args.self.now c.args.file) (let e : x ≡ c.loop-b.b = omega arith in e) ∙ sym (c.in_default.ensures v)
 ]
 
-pub returns-in-default : goal.returns-in-default
-returns-in-default g c = λ v.
+pub returns-in_default : goal.returns-in_default
+returns-in_default g c = λ v.
     sym (lowest_none (g.Self.Table.holding c.args.self.now) c.args.file c.args.block (λ x l m. elim (cases_lt x c.loop-b.b) [
       | inl k ↦ c.loop-b.invariant v x l k
-      | inr k ↦ ap (g.Self.Table.holding c.args.self.now c.args.file) (let e : x ≡ c.loop-b.b = omega arith in e) ∙ sym (c.in-default.ensures v)
+      | inr k ↦ ap (g.Self.Table.holding c.args.self.now c.args.file) (let e : x ≡ c.loop-b.b = omega arith in e) ∙ sym (c.in_default.ensures v)
     ]))

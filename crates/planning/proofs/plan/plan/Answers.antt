@@ -11,7 +11,7 @@ returns-then-input c = record { answer = omega arith; all_right = (bounded_all n
 pub loop-line-init : goal.loop-line-init
 loop-line-init c =
     planning_start c.args.input.now (string_bytes c.new-text.result) (unread c.into_iter-line-iterator.result) nothing (omega arith)
-    c.new-text.ensures.bytes (ap unread c.into_iter-line-iterator.ensures.into_iter-gives ∙ c.new-line-items.ensures) refl
+    c.new-text.ensures.bytes (ap unread c.into_iter-line-iterator.ensures.into_iter_gives ∙ c.new-line-items.ensures) refl
 
 pub plan_line-requires : goal.plan_line-requires
 plan_line-requires c =

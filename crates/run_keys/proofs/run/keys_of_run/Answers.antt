@@ -6,7 +6,7 @@ pub loop-key-init : goal.loop-key-init
 loop-key-init c =
     let b = c.in_ok-walk.ensures in
     ap (λ xs. xs ++ to_come c.into_iter-key-iterator.result) c.new-keys.ensures.items
-    ∙ ap to_come c.into_iter-key-iterator.ensures.into_iter-gives
+    ∙ ap to_come c.into_iter-key-iterator.ensures.into_iter_gives
     ∙ to_come_first c.in_ok-walk.walk c.args.first c.args.n c.args.board b.1 b.2 b.3
 
 pub loop-key-preserved : goal.loop-key-preserved

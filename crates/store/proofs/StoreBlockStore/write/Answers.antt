@@ -23,23 +23,23 @@ returns-in-None g c = clauses (λ v.
     (c.board_of.ensures.map v.map_valid).same_room (c.board_of.ensures.map v.map_valid).same_place (c.in-None.ensures.answer v.map_valid) c.if-mark-eq0.true
     (c.write-in-None.ensures v.lower_valid) (c.board_of.ensures.map v.map_valid).stays_valid)
 
-pub returns-in_err-number : goal.returns-in_err-number
-returns-in_err-number g c =
-    let p = err_from_is_err_and c.from_residual-in_err-number.result c.from_residual-in_err-number.ensures.1 in
+pub returns-in_err-number-in-None-2 : goal.returns-in_err-number-in-None-2
+returns-in_err-number-in-None-2 g c =
+    let p = err_from_is_err_and c.from_residual-in_err-number-in-None-2.result c.from_residual-in_err-number-in-None-2.ensures.1 in
     let kept : c.args.mark ≢ 0 = omega arith in
     rw (p.1, p.2) (clauses (λ v.
     not_claimed c.args.file c.args.block c.args.mark c.args.from.now v (c.admit_write.ensures v.lower_valid) c.in_ok-admit_write.was
     (c.board_of.ensures.map v.map_valid).same_room (c.claim.ensures.room (c.board_of.ensures.map v.map_valid).stays_valid) (c.board_of.ensures.map v.map_valid).same_place (c.in-None.ensures.answer v.map_valid) kept
     (c.blocks-size.ensures.answer v.board_valid) (c.blocks-size.ensures.bounded v.board_valid)
     (c.claim.ensures.step (c.board_of.ensures.map v.map_valid).stays_valid) (c.claim.ensures.kept (c.board_of.ensures.map v.map_valid).stays_valid)
-    c.in_err-number.field-0.0 c.in_err-number.was))
+    c.in_err-number-in-None-2.field-0.0 c.in_err-number-in-None-2.was))
 
-pub returns-in_ok-number : goal.returns-in_ok-number
-returns-in_ok-number g c =
+pub returns-in_ok-number-in-None-2 : goal.returns-in_ok-number-in-None-2
+returns-in_ok-number-in-None-2 g c =
     let kept : c.args.mark ≢ 0 = omega arith in
     clauses (λ v.
     is_claimed c.args.file c.args.block c.args.mark c.args.from.now v (c.admit_write.ensures v.lower_valid) c.in_ok-admit_write.was
     (c.board_of.ensures.map v.map_valid).same_room (c.claim.ensures.room (c.board_of.ensures.map v.map_valid).stays_valid) (c.board_of.ensures.map v.map_valid).same_place (c.in-None.ensures.answer v.map_valid) kept
     (c.blocks-size.ensures.answer v.board_valid) (c.blocks-size.ensures.bounded v.board_valid)
     (c.claim.ensures.step (c.board_of.ensures.map v.map_valid).stays_valid) (c.claim.ensures.kept (c.board_of.ensures.map v.map_valid).stays_valid)
-    c.in_ok-number.was (c.write-in-None-2.ensures v.board_valid))
+    c.in_ok-number-in-None-2.was (c.write-in-None-2.ensures v.board_valid))

@@ -23,7 +23,7 @@ pub invariant_of-self : goal.invariant_of-self
 invariant_of-self c =
     let f = next_piece c.args.self.now.at c.args.self.now.end c.piece_length-length.result c.if-self.false c.piece_length-length.ensures in
     let i = c.args.self.now.fitting in
-    (c.args.self.now.inside, (omega arith, tt))
+    record { inside = c.args.self.now.inside; fitting = omega arith }
 
 pub returns : goal.returns
 returns c =

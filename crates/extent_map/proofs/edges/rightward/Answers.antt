@@ -12,13 +12,13 @@ returns-in_default g c =
     let i = c.loop-y.invariant in
     record { range = (i.0, i.1, omega arith); found = λ v h b. right_hole _ c.args.end c.args.board c.loop-y.y c.loop-y.at (i.4 v h b) (c.in_default.ensures.found v h) }
 
-pub returns-then-entry_at : goal.returns-then-entry_at
-returns-then-entry_at g c =
+pub returns-then-entry-at : goal.returns-then-entry-at
+returns-then-entry-at g c =
     let i = c.loop-y.invariant in
     let e = c.in-Some.entry in
     record {
       range = (i.0, i.1, omega arith);
-      found = λ v h b. right_break _ c.args.end c.args.board c.loop-y.y c.loop-y.at e.length e.board (i.4 v h b) (c.in-Some.ensures.found v h) c.if-entry_at.true;
+      found = λ v h b. right_break _ c.args.end c.args.board c.loop-y.y c.loop-y.at e.length e.board (i.4 v h b) (c.in-Some.ensures.found v h) c.if-entry-at.true;
     }
 
 pub loop-y-preserved : goal.loop-y-preserved
@@ -30,7 +30,7 @@ loop-y-preserved g c =
       omega arith,
       omega arith,
       omega arith,
-      (λ v h b. righting_next _ c.args.end c.args.board c.loop-y.y c.loop-y.at e.length (i.4 v h b) (subst (λ x. IsKey (placing (g.T.Table.holding c.args.table.now) c.args.file) c.loop-y.y e.length x) c.if-entry_at.false (c.in-Some.ensures.found v h))),
+      (λ v h b. righting_next _ c.args.end c.args.board c.loop-y.y c.loop-y.at e.length (i.4 v h b) (subst (λ x. IsKey (placing (g.T.Table.holding c.args.table.now) c.args.file) c.loop-y.y e.length x) c.if-entry-at.false (c.in-Some.ensures.found v h))),
     )
 
 pub returns : goal.returns

@@ -12,6 +12,6 @@ returns g c = record {
   room = refl;
   answer = λ w.
       answer_ok c.args.file c.args.block (ground_of_block c.args.file c.args.block) (placing (g.T.Table.holding c.args.self.now.table) c.args.file c.args.block) _
-      c.in_default.ensures.answer (ap (λ (f : Found). f.board) (c.look_found.ensures w.0));
+      c.in_default.ensures.answer (ap (λ (f : Found). f.board) (c.look-found.ensures w.0));
   same = λ w. refl;
 }

@@ -1,6 +1,6 @@
 /* The look-up path of a block, for a driver that reads the key table itself.
  *
- * Link with target/staticlib/libpaths.a (rt staticlib paths). */
+ * Link with target/staticlib/libextents.a (driver/run builds it). */
 #ifndef HIVSKALTE_PATHS_H
 #define HIVSKALTE_PATHS_H
 

@@ -1,7 +1,7 @@
 -- What a change leaves and what it makes.
-use Rattle.std.proofs.Common.{◌≡◌, ℕ, ◌+◌, ◌<◌, ◌≤◌, Bool, true, false, cond, ◌&&◌, eqb, ltb, leb, ◌≢◌, sym, refl, ap, ◌∙◌, arith}
+use Rattle.std.proofs.Common.{◌≡◌, ℕ, ◌+◌, ◌<◌, ◌≤◌, Bool, true, false, ◌&&◌, eqb, ltb, leb, ◌≢◌, refl}
 use Rattle.std.proofs.lemmas.Bool.{eq-eqb, ne_eqb, and_from, and_left, and_right, cond-true, cond-false, le-leb, lt-ltb, lt-leb, le-ltb}
-use Rattle.blocks.specs.Blocks.{only, inside, every, changed}
+use Rattle.blocks.specs.Blocks.{only, inside, changed}
 
 pub changed_here : {X : Type 0} (h : ℕ → ℕ → X) (file : ℕ) (chosen : ℕ → Bool) (g : ℕ → X) (b : ℕ)
     → chosen b ≡ true → changed h file chosen g file b ≡ g b

@@ -1,5 +1,5 @@
 -- Worked cases: what the rules come to on numbers.
-use Rattle.std.specs.Prelude.{◌≡◌, ℕ, ◌+◌, ◌-◌, cond, List, [], ◌∷◌, length, Some}
+use Rattle.std.specs.Prelude.{◌≡◌, ℕ, ◌+◌, ◌-◌, cond, [], ◌∷◌, length, Some}
 use Rattle.blocks.specs.Blocks.{inside}
 use Rattle.extents.specs.Extents.{FileMap, key, path}
 use Rattle.extents.specs.Runs.{run_map, ListsKeys}

@@ -1,5 +1,5 @@
 -- Blocks that leave the map, and their board blocks that are given back.
-use Rattle.std.proofs.Common.{◌≡◌, ℕ, ◌+◌, ◌-◌, ◌<◌, ◌≤◌, Bool, true, false, cond, ltb, None, Ok, Err, Option, Result, sym, refl, ap, ◌∙◌, ap₂, arith}
+use Rattle.std.proofs.Common.{◌≡◌, ℕ, ◌+◌, ◌-◌, ◌<◌, ◌≤◌, Bool, true, false, cond, ltb, None, Ok, Err, Option, Result, sym, ap, ◌∙◌, ap₂, arith}
 use Rattle.std.proofs.lemmas.Bool.Decides.{nat_tests}
 use Rattle.faults.specs.declared.Fault.{Fault}
 use Rattle.faults.specs.declared.Ground.{Ground}
@@ -7,7 +7,7 @@ use Rattle.faults.specs.declared.Ground.TheVariants.{TooManyKeys}
 use Rattle.blocks.specs.Blocks.{Placement, inside, every, changed}
 use Rattle.block_set.specs.Members.{without}
 use Rattle.ledger.specs.Store.{placed, freed}
-use Rattle.maps.specs.Steps.{Outcome, fault_of, clear_step, ground_of_extent, cleared, forget_step, ground_of_file, forgotten, if_room, unless_ground}
+use Rattle.maps.specs.Steps.{Outcome, fault_of, clear_step, ground_of_extent, forget_step, ground_of_file, forgotten, if_room, unless_ground}
 use Rattle.walks.specs.Walks.{Gathers, places}
 use Rattle.walks.proofs.Places.{freed_extent, freed_file, placed_file}
 use Rattle.claims.specs.Leaves.{Vacated, vacate_step, LeftFile, leave_file}

@@ -15,17 +15,21 @@ fn room_for(input: &[u8]) -> usize {
 }
 
 /// Holds the replies to a text, in just the room that it asks for, to those that are due.
-fn replies_are(heap: Global, input: &[u8], due: &[u8]) -> Result<(), Fail> {
+fn replies_are(rt: &impl Abort, heap: Global, input: &[u8], due: &[u8]) -> Result<(), Fail> {
     let mut output = vec![in heap; BLANK; room_for(input)]?;
-    assert_eq!(
+    assert_eq!(rt;
         print_replies(heap, input, output.as_mut_slice()),
         Ok(due.len())
     );
     for (i, byte) in due.iter().enumerate() {
-        assert_eq!(output.get(i).copied(), Some(*byte), "a byte of the replies");
+        assert_eq!(rt;
+            output.get(i).copied(),
+            Some(*byte),
+            "a byte of the replies"
+        );
     }
     for byte in output.iter().skip(due.len()) {
-        assert_eq!(*byte, BLANK, "a byte behind the replies");
+        assert_eq!(rt; *byte, BLANK, "a byte behind the replies");
     }
     Ok(())
 }
@@ -79,8 +83,8 @@ impl Session {
         self.due.push_str("\n")
     }
 
-    fn run(&self, heap: Global) -> Result<(), Fail> {
-        replies_are(heap, self.input.as_bytes(), self.due.as_bytes())
+    fn run(&self, rt: &impl Abort, heap: Global) -> Result<(), Fail> {
+        replies_are(rt, heap, self.input.as_bytes(), self.due.as_bytes())
     }
 }
 
@@ -128,12 +132,13 @@ fn lines_outside_the_forms(rt: HostRuntime) -> Result<(), Fail> {
     ] {
         session.line(line, "no 7")?;
     }
-    session.run(rt.alloc())
+    session.run(&rt, rt.alloc())
 }
 
 #[test]
 fn bytes_that_are_no_text(rt: HostRuntime) -> Result<(), Fail> {
     replies_are(
+        &rt,
         rt.alloc(),
         b"\xff\nk\x80\nf 1 \xb2\n\x00\x01\x02\nk",
         b"no 7\nno 7\nno 7\nno 7\nkeys 0\n",
@@ -176,7 +181,7 @@ fn refusals_by_number(rt: HostRuntime) -> Result<(), Fail> {
     ] {
         session.line(line, reply)?;
     }
-    session.run(rt.alloc())
+    session.run(&rt, rt.alloc())
 }
 
 /// An extent of 4,094 blocks from block 1 on has 22 keys, so that 93 of them leave room for two keys more.
@@ -205,22 +210,27 @@ fn more_keys_than_there_is_room_for(rt: HostRuntime) -> Result<(), Fail> {
     ] {
         session.line(line, reply)?;
     }
-    session.run(rt.alloc())
+    session.run(&rt, rt.alloc())
 }
 
 #[test]
 fn a_last_line_without_newline(rt: HostRuntime) -> Result<(), Fail> {
-    replies_are(rt.alloc(), b"", b"")?;
-    replies_are(rt.alloc(), b"k", b"keys 0\n")?;
-    replies_are(rt.alloc(), b"a 1 3 8 103\nf 1 7", b"ok 4\nat 107 tried 3\n")?;
-    replies_are(rt.alloc(), b"k\nx", b"keys 0\nno 7\n")?;
-    replies_are(rt.alloc(), b"k\n\n", b"keys 0\nno 7\n")
+    replies_are(&rt, rt.alloc(), b"", b"")?;
+    replies_are(&rt, rt.alloc(), b"k", b"keys 0\n")?;
+    replies_are(
+        &rt,
+        rt.alloc(),
+        b"a 1 3 8 103\nf 1 7",
+        b"ok 4\nat 107 tried 3\n",
+    )?;
+    replies_are(&rt, rt.alloc(), b"k\nx", b"keys 0\nno 7\n")?;
+    replies_are(&rt, rt.alloc(), b"k\n\n", b"keys 0\nno 7\n")
 }
 
 #[test]
 fn each_call_has_a_map_of_its_own(rt: HostRuntime) -> Result<(), Fail> {
-    replies_are(rt.alloc(), b"a 1 3 8 103\nk\n", b"ok 4\nkeys 4\n")?;
-    replies_are(rt.alloc(), b"k\nf 1 7\n", b"keys 0\nhole tried 4\n")
+    replies_are(&rt, rt.alloc(), b"a 1 3 8 103\nk\n", b"ok 4\nkeys 4\n")?;
+    replies_are(&rt, rt.alloc(), b"k\nf 1 7\n", b"keys 0\nhole tried 4\n")
 }
 
 #[test]
@@ -229,7 +239,7 @@ fn an_output_that_is_too_short(rt: HostRuntime) -> Result<(), Fail> {
     is_refused(&rt, rt.alloc(), b"k", 9)?;
     is_refused(&rt, rt.alloc(), b"x\n", 14)?;
     is_refused(&rt, rt.alloc(), b"x\n", 0)?;
-    replies_are(rt.alloc(), b"x\n", b"no 7\n")
+    replies_are(&rt, rt.alloc(), b"x\n", b"no 7\n")
 }
 
 #[test]
@@ -237,7 +247,7 @@ fn the_longest_text(rt: HostRuntime) -> Result<(), Fail> {
     let mut text = repeated(rt.alloc(), b"k\n", 4096)?;
     let due = repeated(rt.alloc(), b"keys 0\n", 4096)?;
     assert_eq!(rt; text.len(), LONGEST_INPUT);
-    replies_are(rt.alloc(), text.as_slice(), due.as_slice())?;
+    replies_are(&rt, rt.alloc(), text.as_slice(), due.as_slice())?;
     is_refused(&rt, rt.alloc(), text.as_slice(), 5 * LONGEST_INPUT + 4)?;
     text.push(b'k')?;
     is_refused(&rt, rt.alloc(), text.as_slice(), 5 * LONGEST_INPUT + 10)
@@ -250,5 +260,5 @@ fn a_text_that_is_cut_in_a_line(rt: HostRuntime) -> Result<(), Fail> {
     text.truncate(LONGEST_INPUT);
     let mut due = repeated(rt.alloc(), b"none\n", 1365)?;
     due.extend_from_slice(b"no 7\n")?;
-    replies_are(rt.alloc(), text.as_slice(), due.as_slice())
+    replies_are(&rt, rt.alloc(), text.as_slice(), due.as_slice())
 }

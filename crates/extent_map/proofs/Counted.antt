@@ -1,9 +1,9 @@
 -- The counted look-up, by the table and by what is placed.
-use Rattle.std.proofs.Common.{◌≡◌, ℕ, Some, None, Ok, Err, Option, Result, sym, refl, ap, ◌∙◌}
+use Rattle.std.proofs.Common.{◌≡◌, ℕ, Some, None, Ok, Err, Option, Result, ap, ◌∙◌}
 use Rattle.faults.specs.declared.Fault.{Fault}
 use Rattle.faults.specs.declared.Ground.{Ground}
 use Rattle.look_ups.specs.declared.Found.{Found}
-use Rattle.extents.specs.Extents.{KeyTable, lookup, tried, key_at}
+use Rattle.extents.specs.Extents.{KeyTable, lookup, tried}
 use Rattle.tables.specs.Holding.{Holding}
 use Rattle.maps.specs.Steps.{answer, fault_of, ground_of_block}
 use Rattle.key_rule.specs.Keyed.{Held, keyed, placing}

@@ -1,15 +1,14 @@
 -- A key that was found, tested.
-use Rattle.std.proofs.Common.{◌≡◌, ℕ, ◌+◌, ◌-◌, ◌<◌, ◌≤◌, Bool, true, false, ◌&&◌, ltb, leb, ◌⊎◌, Some, None, Option, sym, refl, ap, ◌∙◌, subst, inl, inr, arith}
-use Rattle.std.proofs.lemmas.Bool.{and_parts, and_from, and_cases, leb-true, ltb-true, le-leb, true≢false, false≢true}
+use Rattle.std.proofs.Common.{◌≡◌, ℕ, ◌+◌, ◌<◌, ◌≤◌, Bool, true, false, ◌&&◌, ltb, leb, ◌⊎◌, Some, None, sym, ◌∙◌, inl, inr, arith}
+use Rattle.std.proofs.lemmas.Bool.{and_parts, and_from, and_cases, leb-true, ltb-true, le-leb, true≢false}
 use Rattle.blocks.specs.Blocks.{inside}
 use Rattle.blocks.specs.declared.Entry.{Entry}
 use Rattle.blocks.proofs.Changes.{inside_yes}
 use Rattle.extents.specs.declared.key.Key.{Key}
-use Rattle.extents.specs.Extents.{entry, key, IsKey, path, first_held_key, key_at}
+use Rattle.extents.specs.Extents.{path, first_held_key, key_at}
 use Rattle.tables.specs.Holding.{Holding}
 use Rattle.key_rule.specs.Keyed.{Held, placing}
-use Rattle.key_rule.specs.Mends.{Over}
-use Rattle.key_rule.proofs.Looks.{held_key, held_is_key, held_small, held_within, key_long, found_held, over_miss}
+use Rattle.key_rule.proofs.Looks.{held_key, held_small, held_within, key_long, found_held, over_miss}
 
 module _ (s l p b : ℕ) where
   abbrev pub Passes : Bool

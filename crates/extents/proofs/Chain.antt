@@ -1,9 +1,7 @@
 -- The truncations of a block, lowest first and each once: what the path is.
-use Rattle.std.proofs.Common.{◌≡◌, ℕ, zero, suc, ◌+◌, ◌-◌, ◌*◌, ◌/◌, ◌%◌, ◌^◌, ◌<◌, ◌≤◌, Bool, true, false, cond, eqb, ◌⊎◌, List, [], ◌∷◌, sym, refl, ap, ◌∙◌, subst, inl, inr, pow-suc, arith, pow_pos, pow_mono}
-use lib.Pow.{split}
-use Rattle.std.proofs.lemmas.Bool.{cases_lt, cases_Bool, eqb-true, eqb-false, cond-true, cond-false}
-use Rattle.extents.specs.Extents.{Multiple, trunc}
-use Rattle.extents.proofs.Grid.{gap, finer, nested, trunc_multiple, trunc_le, trunc_lt, trunc_only}
+use Rattle.std.proofs.Common.{◌≡◌, ℕ, zero, suc, ◌+◌, ◌*◌, ◌/◌, ◌%◌, ◌^◌, ◌≤◌, Bool, true, false, cond, eqb, List, [], ◌∷◌, sym, refl, ap, ◌∙◌, pow-suc, arith}
+use Rattle.extents.specs.Extents.{trunc}
+use Rattle.extents.proofs.Grid.{nested, trunc_multiple, trunc_le, trunc_lt, trunc_only}
 
 -- the truncations past the bit k, one for each one bit among the next n
 unfoldable pub rest : ℕ → ℕ → ℕ → List ℕ

@@ -1,10 +1,10 @@
 -- The key that `key_at` computes, and that a canonical table has no choice.
-use Rattle.std.proofs.Common.{◌≡◌, ℕ, zero, suc, ◌+◌, ◌-◌, ◌*◌, ◌/◌, ◌%◌, ◌^◌, ◌<◌, ◌≤◌, Bool, true, false, cond, eqb, ◌⊎◌, Some, None, Option, sym, refl, ap, ◌∙◌, subst, inl, inr, arith, pow_pos, pow_mono}
+use Rattle.std.proofs.Common.{◌≡◌, ℕ, zero, suc, ◌+◌, ◌-◌, ◌^◌, ◌<◌, ◌≤◌, Bool, true, false, eqb, ◌⊎◌, Some, None, Option, sym, refl, ap, ◌∙◌, subst, inl, inr, arith, pow_pos}
 use mathlib.Core.Path.{fun_ext}
-use Rattle.std.proofs.lemmas.Bool.{cases_lt, eqb-true, eqb-false}
+use Rattle.std.proofs.lemmas.Bool.{eqb-true, eqb-false}
 use Rattle.blocks.specs.declared.Entry.{Entry}
-use Rattle.extents.specs.Extents.{FileMap, KeyTable, entry, Aligned, Multiple, Straight, IsKey, KeysOf, trunc, rises, widen, if_mapped, key_from, key_at}
-use Rattle.extents.proofs.Grid.{finer, nested, trunc_multiple, trunc_le, trunc_lt, trunc_self}
+use Rattle.extents.specs.Extents.{FileMap, KeyTable, entry, Straight, IsKey, KeysOf, trunc, rises, widen, if_mapped, key_from, key_at}
+use Rattle.extents.proofs.Grid.{nested, trunc_multiple, trunc_le, trunc_lt}
 use Rattle.extents.proofs.Straights.{some-none, known, at_block, key_same, meets, rises_sound, is_key}
 
 -- what an answer for the start a has to say

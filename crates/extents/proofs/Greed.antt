@@ -1,13 +1,13 @@
 -- The greedy walk over a straight run between two barriers gives the run's keys.
-use Rattle.std.proofs.Common.{◌≡◌, ℕ, zero, suc, ◌+◌, ◌-◌, ◌*◌, ◌/◌, ◌%◌, ◌^◌, ◌<◌, ◌≤◌, Bool, true, false, cond, ◌&&◌, eqb, ltb, leb, ◌⊎◌, ◌↔◌, List, [], ◌∷◌, Some, None, Option, sym, refl, ap, ◌∙◌, subst, inl, inr, mod-lt, arith, pow_pos, pow_mono}
+use Rattle.std.proofs.Common.{◌≡◌, ℕ, zero, suc, ◌+◌, ◌-◌, ◌*◌, ◌/◌, ◌%◌, ◌^◌, ◌<◌, ◌≤◌, Bool, true, false, cond, ◌&&◌, eqb, ltb, leb, ◌⊎◌, [], ◌∷◌, Some, sym, refl, ap, ◌∙◌, subst, inl, inr, arith, pow_pos, pow_mono}
 use mathlib.Core.Path.{subst₃}
 use lib.Pow.{split}
-use Rattle.std.proofs.lemmas.Bool.{cases_lt, cases_Bool, cases_eq, and_parts, and_from, eqb-true, leb-true, eq-eqb, le-leb, lt-ltb, le-ltb, cond-true, cond-false}
+use Rattle.std.proofs.lemmas.Bool.{cases_lt, cases_eq, and_parts, and_from, eqb-true, leb-true, eq-eqb, le-leb, lt-ltb, le-ltb, cond-true, cond-false}
 use Rattle.extents.specs.Extents.{FileMap, Aligned, Multiple, Straight, IsKey, Barrier, trunc, key}
 use Rattle.extents.specs.Runs.{Greedy, Run, size_from, piece, walk, Holds}
 use Rattle.extents.specs.Laws.{WalkKeys}
-use Rattle.extents.proofs.Grid.{gap, finer, sum, itself, trunc_self}
-use Rattle.extents.proofs.Straights.{some-none, at_block, meets, key_same}
+use Rattle.extents.proofs.Grid.{trunc_self}
+use Rattle.extents.proofs.Straights.{key_same}
 use Rattle.extents.proofs.Barriers.{barrier_end}
 
 pub multiple_mod : (k x : ℕ) → Multiple (2 ^ k) x → x % 2 ^ k ≡ 0

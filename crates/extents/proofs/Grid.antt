@@ -1,5 +1,5 @@
 -- Multiples of powers of two, and the truncations of a number.
-use Rattle.std.proofs.Common.{◌≡◌, ℕ, zero, suc, ◌+◌, ◌-◌, ◌*◌, ◌/◌, ◌%◌, ◌^◌, ◌<◌, ◌≤◌, ◌⊎◌, sym, refl, ap, ◌∙◌, inl, inr, mul-le-mul_right, mod-lt, mul_assoc, lt_of_mul-lt-mul_right, arith, pow_pos, pow_mono, pow-add}
+use Rattle.std.proofs.Common.{◌≡◌, ℕ, ◌+◌, ◌-◌, ◌*◌, ◌/◌, ◌^◌, ◌<◌, ◌≤◌, ◌⊎◌, sym, refl, ap, ◌∙◌, inl, inr, mul-le-mul_right, mod-lt, mul_assoc, lt_of_mul-lt-mul_right, arith, pow_pos, pow-add}
 use lib.Pow.{split}
 use Rattle.std.proofs.lemmas.Bool.{cases_lt}
 use Rattle.extents.specs.Extents.{Multiple, trunc}

@@ -1,10 +1,9 @@
 -- The look-up, step by step.
-use Rattle.std.proofs.Common.{◌≡◌, ℕ, zero, suc, ◌+◌, ◌-◌, ◌<◌, ◌≤◌, List, [], ◌∷◌, Some, None, Option, sym, refl, ap, ◌∙◌, arith}
+use Rattle.std.proofs.Common.{◌≡◌, ℕ, zero, suc, ◌+◌, ◌-◌, List, [], ◌∷◌, Some, None, Option, refl, ap, ◌∙◌, arith}
 use lib.Bits.{bit_and}
 use Rattle.blocks.specs.declared.Entry.{Entry}
-use Rattle.extents.specs.declared.key.Key.{Key}
 use Rattle.extents.specs.Extents.{KeyTable, key, clearing, path, held_at, first_held_key, only_here, tried_of, tried}
-use Rattle.extents.proofs.Calls.{Along, along_start, along_next, along_more, along_done}
+use Rattle.extents.proofs.Calls.{Along, along_more, along_done}
 
 -- n keys were tried and none was held, and x is the next
 pub record Looking (t : KeyTable) (b n x : ℕ) : Type 0 where

@@ -1,13 +1,13 @@
 -- The map that holds just one run, and the table of a list of keys.
-use Rattle.std.proofs.Common.{◌≡◌, ℕ, zero, suc, ◌+◌, ◌-◌, ◌^◌, ◌<◌, ◌≤◌, Bool, true, false, cond, eqb, ◌⊎◌, ◌↔◌, List, [], ◌∷◌, length, get_or, drop, Some, None, Option, sym, refl, ap, ◌∙◌, subst, inl, inr, add-one, arith, drop-cons, pow_pos}
+use Rattle.std.proofs.Common.{◌≡◌, ℕ, ◌+◌, ◌-◌, ◌<◌, ◌≤◌, true, false, eqb, ◌⊎◌, List, [], ◌∷◌, length, get_or, drop, Some, None, sym, refl, ap, ◌∙◌, inl, inr, add-one, arith, drop-cons, pow_pos}
 use Rattle.std.proofs.lemmas.List.{drop_all}
 use Rattle.std.proofs.lemmas.Bool.{cases_lt, cases_Bool, eqb-true, eq-eqb, ne_eqb, cond-true, cond-false}
 use Rattle.blocks.specs.Blocks.{inside}
 use Rattle.blocks.specs.declared.Entry.{Entry}
 use Rattle.blocks.proofs.Changes.{inside_yes, inside_before, inside_after}
 use Rattle.extents.specs.declared.key.Key.{Key}
-use Rattle.extents.specs.Extents.{FileMap, KeyTable, entry, Straight, IsKey, KeysOf, Barrier, lookup, key}
-use Rattle.extents.specs.Runs.{Run, run_map, walk, Holds, ListsKeys, or_at, table_of}
+use Rattle.extents.specs.Extents.{FileMap, entry, IsKey, KeysOf, Barrier, lookup}
+use Rattle.extents.specs.Runs.{Run, run_map, Holds, ListsKeys, or_at, table_of}
 use Rattle.extents.specs.Laws.{RunKeys}
 use Rattle.extents.proofs.Straights.{some-none, at_block, key_same}
 use Rattle.extents.proofs.Greed.{walk_keys}

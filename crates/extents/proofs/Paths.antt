@@ -1,6 +1,6 @@
 -- The path is the chain of truncations; its length; and the look-up along it.
-use Rattle.std.proofs.Common.{◌≡◌, ℕ, zero, suc, ◌+◌, ◌-◌, ◌*◌, ◌/◌, ◌%◌, ◌^◌, ◌<◌, ◌≤◌, Bool, true, false, cond, eqb, ◌⊎◌, List, [], ◌∷◌, length, sym, refl, ap, ◌∙◌, subst, inl, inr, div-one, add-one, arith, pow_pos, shr-shr}
-use lib.Pow.{pow-lt, split, ones_lt, field, mod-mod-pow}
+use Rattle.std.proofs.Common.{◌≡◌, ℕ, zero, suc, ◌+◌, ◌-◌, ◌*◌, ◌/◌, ◌%◌, ◌^◌, ◌<◌, ◌≤◌, eqb, ◌⊎◌, [], ◌∷◌, length, sym, refl, ap, ◌∙◌, subst, inl, inr, div-one, add-one, arith, pow_pos, shr-shr}
+use lib.Pow.{ones_lt, field, mod-mod-pow}
 use lib.Bits.{bit_and, and_block, and_self, and_shifted}
 use lib.Count.{ones, ones_step}
 use Rattle.std.proofs.lemmas.Bool.{cases_eq, eq-eqb, ne_eqb, cond-true, cond-false}

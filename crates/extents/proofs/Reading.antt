@@ -1,14 +1,13 @@
 -- A canonical table, read along the truncations of a block, gives the block's place.
-use Rattle.std.proofs.Common.{◌≡◌, ℕ, zero, suc, ◌+◌, ◌-◌, ◌*◌, ◌/◌, ◌%◌, ◌^◌, ◌<◌, ◌≤◌, Bool, true, false, cond, eqb, ltb, ◌⊎◌, List, [], ◌∷◌, Some, None, Option, sym, refl, ap, ◌∙◌, subst, inl, inr, arith, pow_pos, pow_mono}
-use lib.Pow.{split}
-use Rattle.std.proofs.lemmas.Bool.{cases_lt, cases_eq, cases_Bool, eqb-true, eqb-false, ltb-true, ltb-false, lt-ltb, le-ltb, cond-true, cond-false}
+use Rattle.std.proofs.Common.{◌≡◌, ℕ, zero, suc, ◌+◌, ◌-◌, ◌/◌, ◌%◌, ◌^◌, ◌<◌, ◌≤◌, cond, ◌⊎◌, List, [], ◌∷◌, Some, None, Option, sym, refl, ap, ◌∙◌, inl, inr, arith, pow_pos}
+use Rattle.std.proofs.lemmas.Bool.{cases_lt, cases_eq, cond-true, cond-false}
 use Rattle.blocks.specs.Blocks.{inside}
 use Rattle.blocks.specs.declared.Entry.{Entry}
 use Rattle.blocks.proofs.Changes.{inside_yes, inside_after}
-use Rattle.extents.specs.Extents.{FileMap, KeyTable, entry, Aligned, Multiple, Straight, IsKey, KeysOf, trunc, rises, path, held_at, first_held_key, says, lookup}
-use Rattle.extents.proofs.Grid.{gap, finer, nested, trunc_multiple, trunc_le, trunc_lt, trunc_only}
+use Rattle.extents.specs.Extents.{FileMap, KeyTable, Straight, IsKey, KeysOf, trunc, rises, held_at, first_held_key, says}
+use Rattle.extents.proofs.Grid.{trunc_multiple, trunc_le, trunc_lt}
 use Rattle.extents.proofs.Straights.{some-none, known, at_block, key_same, rises_sound, is_key}
-use Rattle.extents.proofs.Chain.{rest, trunc_order, trunc_trunc, bit_zero, bit_one, Below, rest_below, rest_zero, rest_one}
+use Rattle.extents.proofs.Chain.{rest, trunc_order, trunc_trunc, bit_zero, Below, rest_below, rest_zero, rest_one}
 
 -- the look-up in one: what the key at x says of block b, where one is held, or else r
 abbrev held_or : Option Entry → ℕ → ℕ → Option ℕ → Option ℕ

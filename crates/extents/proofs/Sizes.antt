@@ -1,12 +1,11 @@
 -- The greedy exponent from trailing and leading zeros, and a table mended between two barriers.
-use Rattle.std.proofs.Common.{◌≡◌, ℕ, zero, suc, ◌+◌, ◌-◌, ◌*◌, ◌/◌, ◌%◌, ◌^◌, ◌<◌, ◌≤◌, min, cond, eqb, ◌⊎◌, ◌↔◌, Some, None, Option, sym, refl, ap, ◌∙◌, subst, inl, inr, pow-suc, arith, pow_pos, pow_mono}
+use Rattle.std.proofs.Common.{◌≡◌, ℕ, zero, suc, ◌+◌, ◌-◌, ◌*◌, ◌/◌, ◌%◌, ◌^◌, ◌<◌, ◌≤◌, min, cond, eqb, ◌⊎◌, ◌↔◌, Some, sym, refl, ap, ◌∙◌, subst, inl, inr, pow-suc, arith, pow_mono}
 use lib.Count.{count_trailing_zeros, count_leading_zeros, under, leading_top}
-use Rattle.std.proofs.lemmas.Bool.{cases_lt, cases_eq, ne_eqb, cond-false}
+use Rattle.std.proofs.lemmas.Bool.{cases_lt, ne_eqb, cond-false}
 use Rattle.std.proofs.lemmas.Nat.{one_shl}
-use Rattle.extents.specs.Extents.{FileMap, KeyTable, entry, Aligned, Multiple, IsKey, KeysOf}
+use Rattle.extents.specs.Extents.{entry, Multiple, IsKey}
 use Rattle.extents.specs.Runs.{Greedy, size_from, piece}
 use Rattle.extents.specs.Laws.{Mended, SizeByZeros, size_by_zeros}
-use Rattle.extents.proofs.Grid.{finer}
 use Rattle.extents.proofs.Greed.{size_greedy, piece_pos, piece_fits, piece_small}
 use Rattle.extents.proofs.Barriers.{keys_beyond}
 

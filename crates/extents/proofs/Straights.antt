@@ -1,9 +1,8 @@
 -- Straight extentes and keys: parts, meetings, and the run that decides them.
-use Rattle.std.proofs.Common.{◌≡◌, ℕ, zero, suc, ◌+◌, ◌-◌, ◌*◌, ◌/◌, ◌%◌, ◌^◌, ◌<◌, ◌≤◌, Bool, true, false, cond, eqb, ltb, ◌⊎◌, Some, None, Option, sym, refl, ap, ◌∙◌, subst, inl, inr, pow-suc, arith, pow_pos, pow_mono}
-use lib.Pow.{pow-lt}
-use Rattle.std.proofs.lemmas.Bool.{cases_lt, cases_order, cases_Bool, eqb-true, eq-eqb, ne_eqb, cond-true, cond-false}
-use Rattle.extents.specs.Extents.{FileMap, Aligned, Multiple, Straight, IsKey, trunc, rises, join}
-use Rattle.extents.proofs.Grid.{gap, finer, nested, trunc_multiple, trunc_le, trunc_lt, trunc_only}
+use Rattle.std.proofs.Common.{◌≡◌, ℕ, zero, suc, ◌+◌, ◌-◌, ◌^◌, ◌<◌, ◌≤◌, true, false, cond, eqb, ◌⊎◌, Some, None, Option, sym, refl, ap, ◌∙◌, subst, inl, inr, arith, pow_pos}
+use Rattle.std.proofs.lemmas.Bool.{cases_lt, cases_Bool, eqb-true, eq-eqb, cond-true, cond-false}
+use Rattle.extents.specs.Extents.{FileMap, Multiple, Straight, IsKey, trunc, rises, join}
+use Rattle.extents.proofs.Grid.{nested, trunc_multiple, trunc_le, trunc_lt, trunc_only}
 
 pub some-none {ℓ} : {X : Type 0} {Y : Type ℓ} (o : Option X) (x : X) → o ≡ Some x → o ≡ None → Y
 some-none o x p q = let z : ◌≡◌ {A = ℕ} 0 1 = cc in let e : ⊥ = omega arith in absurd e

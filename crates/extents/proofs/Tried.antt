@@ -1,5 +1,5 @@
 -- How many keys a look-up tries.
-use Rattle.std.proofs.Common.{◌≡◌, ℕ, zero, suc, ◌+◌, ◌<◌, ◌≤◌, Bool, true, false, cond, List, [], ◌∷◌, length, get_or, is_some, Some, None, Option, sym, refl, ap, ◌∙◌, subst, arith}
+use Rattle.std.proofs.Common.{◌≡◌, ℕ, zero, suc, ◌+◌, ◌<◌, true, List, [], ◌∷◌, length, get_or, is_some, Some, None, Option, refl, ap, ◌∙◌, arith}
 use Rattle.blocks.specs.declared.Entry.{Entry}
 use Rattle.extents.specs.Extents.{KeyTable, path, only_here, tried_of, tried}
 use Rattle.extents.specs.Laws.{Tries}

@@ -1,8 +1,7 @@
 -- What is proved of keys, paths and runs, as statements.
-use Rattle.std.specs.Prelude.{◌≡◌, ℕ, ◌+◌, ◌-◌, ◌*◌, ◌/◌, ◌%◌, ◌^◌, ◌<◌, ◌≤◌, min, Bool, true, false, cond, ◌&&◌, ◌↔◌, List, [], ◌∷◌, length, is_some, Some, None, Option, ◌≢◌, count_ones, slice_index}
+use Rattle.std.specs.Prelude.{◌≡◌, ℕ, ◌+◌, ◌-◌, ◌%◌, ◌^◌, ◌<◌, ◌≤◌, min, true, ◌↔◌, length, is_some, Some, None, ◌≢◌, count_ones, slice_index}
 use Rattle.std.specs.Int.Count.{count_trailing_zeros, count_leading_zeros}
-use Rattle.blocks.specs.declared.Entry.{Entry}
-use Rattle.extents.specs.Extents.{FileMap, KeyTable, entry, Multiple, IsKey, KeysOf, path, lookup, tried, key_at, Barrier, Outside, Agree, key}
+use Rattle.extents.specs.Extents.{FileMap, KeyTable, entry, Multiple, IsKey, KeysOf, path, lookup, tried, key_at, Barrier, Outside, Agree}
 use Rattle.extents.specs.Runs.{Run, run_map, walk, Holds, ListsKeys, Greedy}
 
 -- The look-up over the table of a map's keys reads the map back at every block, holes included.

@@ -1,5 +1,5 @@
 -- The numbers of the grounds of refusal, and which of several grounds a call is refused on.
-use Rattle.std.specs.Prelude.{ℕ, Bool, true, false, cond, List, [], ◌∷◌, Some, None, codes, Option}
+use Rattle.std.specs.Prelude.{ℕ, Bool, cond, List, [], ◌∷◌, Some, None, codes, Option}
 use Rattle.faults.specs.declared.Ground.{Ground}
 use Rattle.faults.specs.declared.Ground.TheVariants.{Mark, File, Block, Length, Buffer, BoardNumber, Line, Mapped, NoFreeBlock, TooManyKeys, TableFull}
 use Rattle.faults.specs.declared.Layer.{Layer}

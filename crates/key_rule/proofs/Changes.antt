@@ -1,26 +1,21 @@
 -- What the calls of an extent map rest on.
 
-use Rattle.std.proofs.Common.{◌≡◌, ℕ, zero, suc, ◌+◌, ◌-◌, ◌*◌, ◌%◌, ◌^◌, ◌<◌, ◌≤◌, Bool, true, false, cond, ◌&&◌, eqb, ltb, leb, ◌⊎◌, is_some, Some, None, Ok, Err, Option, Result, sym, refl, ap, ◌∙◌, subst, inl, inr, arith}
+use Rattle.std.proofs.Common.{◌≡◌, ℕ, ◌+◌, ◌-◌, ◌%◌, ◌<◌, ◌≤◌, ◌⊎◌, is_some, Some, None, Option, sym, refl, ap, ◌∙◌, subst, inl, inr, arith}
 use mathlib.Core.Path.{fun_ext}
-use Rattle.std.proofs.lemmas.Bool.{cases_lt, cases_eq, lt-leb, le-leb, leb-true, leb-false, lt-ltb, le-ltb, cond-true, cond-false, eq-eqb, ne_eqb}
-use Rattle.std.proofs.lemmas.Bool.Decides.{nat_tests}
-use Rattle.faults.specs.declared.Fault.{Fault}
-use Rattle.faults.specs.declared.Ground.{Ground}
-use Rattle.faults.specs.declared.Ground.TheVariants.{TooManyKeys}
-use Rattle.extents.specs.Extents.{FileMap, IsKey, Barrier, Outside, KeysOf, key_at}
+use Rattle.std.proofs.lemmas.Bool.{cases_lt, cases_eq}
+use Rattle.extents.specs.Extents.{FileMap, Barrier, Outside, KeysOf, key_at}
 use Rattle.extents.specs.Runs.{Run}
 use Rattle.extents.proofs.Straights.{known, some-none}
 use Rattle.extents.proofs.Found.{key_at_keys}
 use Rattle.extents.proofs.Barriers.{barrier_hole, barrier_after}
-use Rattle.blocks.specs.Blocks.{Placement, changed, inside, every, one, tally}
-use Rattle.blocks.specs.declared.Entry.{Entry}
+use Rattle.blocks.specs.Blocks.{Placement, changed, inside, one, tally}
 use Rattle.tables.specs.Holding.{Holding, nothing}
 use Rattle.blocks.proofs.Changes.{changed_here, changed_beside, changed_elsewhere, inside_yes, inside_before, inside_after}
 use Rattle.blocks.proofs.Sums.{tally_fewer, one_le}
-use Rattle.maps.specs.Steps.{Outcome, nowhere, assigned, cleared, forgotten, lowest_mapped_block, if_room, unless_mapped, unless_ground, ground_of_extent, ground_of_assign, ground_of_file, fault_of, assign_step, clear_step, forget_step}
+use Rattle.maps.specs.Steps.{nowhere, assigned, cleared, forgotten, lowest_mapped_block}
 use Rattle.maps.proofs.Forgets.{forgotten_here, forgotten_other}
-use Rattle.key_rule.specs.Keyed.{Held, Within, OnBoard, Exact, keyed, placing, rule_of_keys}
-use Rattle.key_rule.specs.Mends.{blend, none, Lay, Cut, Mending, Mended, Leftward, Rightward, LeftEdge, RightEdge}
+use Rattle.key_rule.specs.Keyed.{Held, Within, Exact, keyed, placing, rule_of_keys}
+use Rattle.key_rule.specs.Mends.{blend, none, Mending, Leftward, Rightward, LeftEdge, RightEdge}
 use Rattle.key_rule.proofs.Tallies.{blend_in, blend_out}
 use Rattle.key_rule.proofs.Looks.{held_is_key}
 use Rattle.key_rule.proofs.Edges.{run_none, run_join, barrier_left, barrier_right, lowest_free, some_same}

@@ -1,17 +1,17 @@
 -- Dropping and counting the keys of an interval one by one.
-use Rattle.std.proofs.Common.{◌≡◌, ℕ, zero, suc, ◌+◌, ◌-◌, ◌<◌, ◌≤◌, ◌⊎◌, is_some, Some, None, Option, sym, refl, ap, ◌∙◌, subst, inl, inr, arith}
+use Rattle.std.proofs.Common.{◌≡◌, ℕ, ◌+◌, ◌<◌, ◌≤◌, ◌⊎◌, is_some, Some, None, Option, sym, ap, ◌∙◌, inl, inr, arith}
 use Rattle.std.proofs.lemmas.Bool.{cases_lt}
-use Rattle.extents.specs.Extents.{entry, IsKey, Barrier, key_at}
-use Rattle.blocks.specs.Blocks.{Placement, changed, only, one, tally}
+use Rattle.extents.specs.Extents.{entry, IsKey, Barrier}
+use Rattle.blocks.specs.Blocks.{one, tally}
 use Rattle.blocks.specs.declared.Entry.{Entry}
 use Rattle.tables.specs.Holding.{Holding, lowest_row}
 use Rattle.tables.specs.declared.row.Row.{Row}
 use Rattle.tables.proofs.Lowest.{lowest_when_none, lowest_when_some}
 use Rattle.extents.proofs.Straights.{some-none}
 use Rattle.blocks.proofs.Sums.{tally_change}
-use Rattle.key_rule.specs.Keyed.{Held, placing, keyed}
+use Rattle.key_rule.specs.Keyed.{Held, placing}
 use Rattle.key_rule.specs.Mends.{update, blend, none, Sought}
-use Rattle.key_rule.proofs.Tallies.{blend_in, blend_out, blend_step, blend_skip}
+use Rattle.key_rule.proofs.Tallies.{blend_out, blend_step, blend_skip}
 use Rattle.key_rule.proofs.Looks.{held_key, held_is_key, held_within, key_long}
 use Rattle.key_rule.proofs.Runs.{no_key}
 

@@ -1,8 +1,8 @@
 -- Runs, their joins and their barriers.
 
-use Rattle.std.proofs.Common.{◌≡◌, ℕ, zero, suc, ◌+◌, ◌-◌, ◌*◌, ◌%◌, ◌^◌, ◌<◌, ◌≤◌, Bool, true, false, cond, ◌⊎◌, Some, None, Option, sym, refl, ap, ◌∙◌, subst, inl, inr, arith}
-use Rattle.std.proofs.lemmas.Bool.{cases_lt, cases_eq}
-use Rattle.extents.specs.Extents.{FileMap, entry, IsKey, Barrier, key_at, trunc}
+use Rattle.std.proofs.Common.{◌≡◌, ℕ, zero, suc, ◌+◌, ◌-◌, ◌%◌, ◌^◌, ◌<◌, ◌≤◌, ◌⊎◌, Some, None, Option, sym, refl, ap, ◌∙◌, subst, inl, inr, arith}
+use Rattle.std.proofs.lemmas.Bool.{cases_lt}
+use Rattle.extents.specs.Extents.{FileMap, IsKey, Barrier, key_at, trunc}
 use Rattle.extents.specs.Runs.{Run}
 use Rattle.extents.proofs.Grid.{trunc_le, trunc_lt}
 use Rattle.extents.proofs.Straights.{some-none, known}
@@ -10,10 +10,9 @@ use Rattle.extents.proofs.Reading.{climb, single, Top}
 use Rattle.extents.proofs.Barriers.{barrier_multiple, barrier_start, barrier_end, barrier_hole, barrier_after, barrier_break}
 use Rattle.extents.proofs.Greed.{run_further, mod_multiple}
 use Rattle.extents.proofs.Found.{key_at_keys}
-use Rattle.blocks.specs.declared.Entry.{Entry}
 use Rattle.tables.specs.Holding.{Holding, lowest_row}
 use Rattle.tables.specs.declared.row.Row.{Row}
-use Rattle.tables.proofs.Lowest.{Lowest, lowest_when_none, lowest_when_some}
+use Rattle.tables.proofs.Lowest.{lowest_when_none, lowest_when_some}
 use Rattle.maps.specs.Steps.{lowest_mapped_block, here_or}
 use Rattle.key_rule.specs.Keyed.{Held, placing}
 use Rattle.key_rule.specs.Mends.{Leftward, Rightward, LeftEdge, RightEdge}

@@ -1,5 +1,5 @@
 -- What a table says that holds the keys of what is read from it.
-use Rattle.std.proofs.Common.{◌≡◌, ℕ, zero, suc, ◌+◌, ◌-◌, ◌*◌, ◌%◌, ◌^◌, ◌<◌, ◌≤◌, false, ◌⊎◌, List, [], ◌∷◌, Some, None, Option, sym, refl, ap, ◌∙◌, subst, inl, inr, arith, pow_pos}
+use Rattle.std.proofs.Common.{◌≡◌, ℕ, ◌+◌, ◌-◌, ◌<◌, ◌≤◌, false, ◌⊎◌, List, [], ◌∷◌, Some, None, Option, sym, refl, ap, ◌∙◌, inl, inr, arith, pow_pos}
 use Rattle.std.proofs.lemmas.Bool.{cases_lt, cond-false}
 use Rattle.blocks.specs.Blocks.{inside}
 use Rattle.blocks.specs.declared.Entry.{Entry}
@@ -9,7 +9,7 @@ use Rattle.extents.proofs.Found.{key_at_keys}
 use Rattle.extents.proofs.Straights.{at_block, some-none, known}
 use Rattle.tables.specs.Holding.{Holding}
 use Rattle.key_rule.specs.Keyed.{Held, keyed, placing}
-use Rattle.key_rule.specs.Mends.{Sane, Over}
+use Rattle.key_rule.specs.Mends.{Over}
 
 -- ---- what a held table says
 

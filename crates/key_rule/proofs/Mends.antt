@@ -1,9 +1,9 @@
 -- A extent of a file made anew.
 
-use Rattle.std.proofs.Common.{◌≡◌, ℕ, zero, suc, ◌+◌, ◌-◌, ◌*◌, ◌%◌, ◌^◌, ◌<◌, ◌≤◌, Bool, true, false, cond, leb, ◌⊎◌, Some, None, Option, sym, refl, ap, ◌∙◌, subst, inl, inr, arith}
+use Rattle.std.proofs.Common.{◌≡◌, ℕ, ◌+◌, ◌<◌, ◌≤◌, false, leb, ◌⊎◌, Some, None, Option, sym, ap, ◌∙◌, subst, inl, inr, arith}
 use mathlib.Core.Path.{fun_ext}
-use Rattle.std.proofs.lemmas.Bool.{cases_lt, cases_eq, lt-leb, le-leb}
-use Rattle.extents.specs.Extents.{FileMap, KeyTable, IsKey, Barrier, Agree, Outside, key_at, key_from, if_mapped}
+use Rattle.std.proofs.lemmas.Bool.{cases_lt, cases_eq, lt-leb}
+use Rattle.extents.specs.Extents.{FileMap, IsKey, Barrier, Agree, Outside, key_at, key_from, if_mapped}
 use Rattle.extents.proofs.Straights.{known}
 use Rattle.extents.proofs.Barriers.{keys_beyond}
 use Rattle.extents.proofs.Found.{key_at_keys}
@@ -12,7 +12,7 @@ use Rattle.blocks.specs.Blocks.{Placement, tally}
 use Rattle.blocks.specs.declared.Entry.{Entry}
 use Rattle.tables.specs.Holding.{Holding}
 use Rattle.key_rule.specs.Keyed.{Held, Within, OnBoard, keyed, placing, rule_of_keys}
-use Rattle.key_rule.specs.Mends.{blend, none, Lay, Empty, Counted, Laid, Cut, Mending}
+use Rattle.key_rule.specs.Mends.{blend, none, Empty, Counted, Laid, Cut, Mending}
 use Rattle.key_rule.proofs.Tallies.{blend_in, blend_out, blend_empty, blend_more}
 use Rattle.key_rule.proofs.Looks.{held_is_key}
 

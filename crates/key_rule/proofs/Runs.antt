@@ -1,20 +1,20 @@
 -- Putting the keys of a run one by one.
 
-use Rattle.std.proofs.Common.{◌≡◌, ℕ, zero, suc, ◌+◌, ◌-◌, ◌*◌, ◌%◌, ◌^◌, ◌<◌, ◌≤◌, Bool, true, false, cond, not, ◌⊎◌, is_some, Some, None, Option, sym, refl, ap, ◌∙◌, subst, inl, inr, arith, pow_pos}
+use Rattle.std.proofs.Common.{◌≡◌, ℕ, ◌+◌, ◌-◌, ◌<◌, ◌≤◌, Bool, cond, not, ◌⊎◌, is_some, Some, None, Option, sym, ap, ◌∙◌, subst, inl, inr, arith}
 use Rattle.std.proofs.lemmas.Bool.{cond-true}
-use Rattle.extents.specs.Extents.{FileMap, KeyTable, entry, IsKey, Barrier, key_at}
+use Rattle.extents.specs.Extents.{FileMap, entry, IsKey, Barrier, key_at}
 use Rattle.extents.specs.Runs.{Run, piece}
 use Rattle.extents.proofs.Found.{key_at_keys, inner}
 use Rattle.extents.proofs.Straights.{known}
 use Rattle.extents.proofs.Barriers.{barrier_end}
 use Rattle.extents.proofs.Greed.{run_further, piece_key, piece_pos, piece_fits}
-use Rattle.blocks.specs.Blocks.{Placement, changed, only, one, tally}
+use Rattle.blocks.specs.Blocks.{one, tally}
 use Rattle.blocks.specs.declared.Entry.{Entry}
 use Rattle.tables.specs.Holding.{Holding, full}
 use Rattle.tables.proofs.Looks.{room_new}
 use Rattle.blocks.proofs.Sums.{tally_change}
 use Rattle.key_rule.specs.Mends.{update, blend, Lay, Empty}
-use Rattle.key_rule.proofs.Tallies.{blend_in, blend_out, blend_step, blend_more}
+use Rattle.key_rule.proofs.Tallies.{blend_out, blend_step, blend_more}
 
 -- inside a key no other starts
 pub no_key : (m : FileMap) (a s p b : ℕ) → IsKey m a s p → a < b → b < a + s → key_at m b ≡ None

@@ -1,16 +1,16 @@
 -- Counting the keys of a table.
 
-use Rattle.std.proofs.Common.{◌≡◌, ℕ, zero, suc, ◌+◌, ◌<◌, ◌≤◌, Bool, true, false, cond, ◌&&◌, eqb, ltb, leb, ◌⊎◌, is_some, Some, None, Option, sym, refl, ap, ◌∙◌, subst, inl, inr, arith}
+use Rattle.std.proofs.Common.{◌≡◌, ℕ, ◌<◌, ◌≤◌, ◌⊎◌, is_some, None, Option, sym, ◌∙◌, subst, inl, inr, arith}
 use mathlib.Core.Path.{fun_ext}
 use Rattle.std.proofs.lemmas.Bool.{cases_lt, cases_eq}
 use Rattle.std.proofs.lemmas.Bool.Decides.{nat_tests}
-use Rattle.blocks.specs.Blocks.{changed, only, one, tally}
+use Rattle.blocks.specs.Blocks.{only, one, tally}
 use Rattle.blocks.specs.declared.Entry.{Entry}
-use Rattle.blocks.proofs.Changes.{changed_here, changed_beside, changed_elsewhere, only_here, only_other}
+use Rattle.blocks.proofs.Changes.{changed_here, changed_elsewhere, only_here}
 use Rattle.blocks.proofs.Sums.{tally_fewer}
 use Rattle.extents.specs.Extents.{KeyTable}
 use Rattle.tables.specs.Holding.{Holding}
-use Rattle.key_rule.specs.Mends.{update, between, blend, none}
+use Rattle.key_rule.specs.Mends.{update, blend}
 
 update_at : (h : Holding) (f b : ℕ) (o : Option Entry) → update h f b o f b ≡ o
 update_at h f b o = changed_here h f (only b) (λ _. o) b (only_here b)

@@ -1,18 +1,18 @@
 -- Four straight blocks, and what is left of them without the second.
-use Rattle.std.proofs.Common.{◌≡◌, ℕ, ◌+◌, ◌-◌, ◌<◌, ◌≤◌, Bool, true, false, cond, ltb, ◌⊎◌, Some, None, Ok, Err, Option, sym, refl, ap, ◌∙◌, subst, inl, inr, arith}
+use Rattle.std.proofs.Common.{◌≡◌, ℕ, ◌+◌, ◌-◌, ◌<◌, ◌≤◌, Bool, cond, ltb, ◌⊎◌, Some, None, Ok, Err, sym, refl, ap, ◌∙◌, subst, inl, inr, arith}
 use Rattle.std.proofs.lemmas.Bool.{cases_lt, cases_eq}
 use Rattle.faults.specs.declared.Ground.TheVariants.{TooManyKeys}
 use Rattle.blocks.specs.Blocks.{Placement, inside, tally}
 use Rattle.blocks.proofs.Changes.{changed_here, changed_beside, changed_elsewhere, inside_yes, inside_after}
 use Rattle.blocks.proofs.Sums.{tally_none}
-use Rattle.extents.specs.Extents.{FileMap, Barrier, key_at}
+use Rattle.extents.specs.Extents.{key_at}
 use Rattle.extents.specs.Runs.{Run, size_from, piece}
 use Rattle.extents.proofs.Barriers.{barrier_hole, barrier_multiple}
 use Rattle.extents.proofs.Straights.{some-none}
-use Rattle.tables.specs.Holding.{Holding, nothing}
-use Rattle.maps.specs.Steps.{Outcome, nowhere, assigned, cleared, if_room, fault_of, lowest_mapped_block}
-use Rattle.key_rule.specs.Keyed.{Held, keyed, placing, rule_of_keys, four_blocks, CutInTwo}
-use Rattle.key_rule.specs.Mends.{blend, none, Counted, Cut, Mending}
+use Rattle.tables.specs.Holding.{nothing}
+use Rattle.maps.specs.Steps.{Outcome, nowhere, assigned, cleared, fault_of, lowest_mapped_block}
+use Rattle.key_rule.specs.Keyed.{Held, keyed, rule_of_keys, four_blocks, CutInTwo}
+use Rattle.key_rule.specs.Mends.{blend, none, Counted, Mending}
 use Rattle.key_rule.proofs.Tallies.{blend_in, blend_out, blend_empty}
 use Rattle.key_rule.proofs.Runs.{step}
 use Rattle.key_rule.proofs.Edges.{run_none}

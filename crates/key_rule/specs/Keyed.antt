@@ -1,5 +1,5 @@
 -- A placement that is held as its keys.
-use Rattle.std.specs.Prelude.{◌≡◌, ℕ, ◌<◌, ◌≤◌, ◌⊎◌, Some, None, Ok, Err, Option}
+use Rattle.std.specs.Prelude.{◌≡◌, ℕ, ◌<◌, ◌≤◌, ◌⊎◌, Some, None, Ok, Err}
 use Rattle.blocks.specs.Blocks.{Placement, tally}
 use Rattle.extents.specs.Extents.{KeysOf, lookup, key_at}
 use Rattle.tables.specs.Holding.{Holding}

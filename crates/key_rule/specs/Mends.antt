@@ -1,9 +1,9 @@
 -- How a table of exactly the keys is changed between two barriers.
-use Rattle.std.specs.Prelude.{◌≡◌, ℕ, zero, suc, ◌+◌, ◌-◌, ◌%◌, ◌<◌, ◌≤◌, Bool, true, false, cond, ◌&&◌, ◌⊎◌, Some, None, Option, ◌≢◌, nat_le, nat_lt}
+use Rattle.std.specs.Prelude.{◌≡◌, ℕ, ◌+◌, ◌-◌, ◌%◌, ◌<◌, ◌≤◌, Bool, cond, ◌&&◌, ◌⊎◌, Some, None, Option, ◌≢◌, nat_le, nat_lt}
 use Rattle.blocks.specs.Blocks.{Placement, changed, only, tally}
 use Rattle.blocks.specs.declared.Entry.{Entry}
 use Rattle.extents.specs.declared.key.Key.{Key}
-use Rattle.extents.specs.Extents.{FileMap, KeyTable, entry, IsKey, Barrier, Agree, key_at}
+use Rattle.extents.specs.Extents.{FileMap, KeyTable, IsKey, Barrier, Agree, key_at}
 use Rattle.extents.specs.Runs.{Run}
 use Rattle.tables.specs.Holding.{Holding}
 use Rattle.key_rule.specs.Keyed.{keyed, rule_of_keys}

@@ -1,11 +1,10 @@
 -- Files that are forgotten one after another.
-use Rattle.std.proofs.Common.{◌≡◌, ℕ, ◌+◌, ◌<◌, ◌≤◌, true, cond, ltb, ◌⊎◌, Some, None, Ok, Err, Option, Result, sym, refl, ap, ◌∙◌, inl, inr, arith}
+use Rattle.std.proofs.Common.{◌≡◌, ℕ, ◌+◌, ◌<◌, ◌≤◌, ltb, ◌⊎◌, Some, None, Ok, Result, refl, ap, ◌∙◌, inl, inr, arith}
 use mathlib.Core.Path.{fun_ext}
 use Rattle.std.proofs.lemmas.Bool.{cases_lt, cases_eq, le-ltb, cond-false}
 use Rattle.faults.specs.declared.Fault.{Fault}
-use Rattle.faults.specs.declared.Ground.{Ground}
 use Rattle.faults.specs.declared.Ground.TheVariants.{File}
-use Rattle.blocks.specs.Blocks.{Placement, every, changed}
+use Rattle.blocks.specs.Blocks.{Placement, every}
 use Rattle.blocks.proofs.Changes.{changed_here, changed_elsewhere}
 use Rattle.maps.specs.Steps.{nowhere, forgotten, Outcome, ground_of_file, unless_ground, forget_step}
 

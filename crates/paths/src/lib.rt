@@ -6,8 +6,7 @@ ghost use Rattle.std.specs.Prelude.{◌≡◌};
 ghost use Rattle.extents.specs.Extents.{length_of_path, key_on_path};
 
 /// How many keys the look-up of a block may try; 0 for a block above 65,535.
-#[unsafe(no_mangle)]
-pub extern "C" fn path_length(block: u32) -> u32
+pub fn path_length(block: u32) -> u32
     ensures { result ≡ length_of_path block }
 {
     if block > 65535 {
@@ -17,8 +16,7 @@ pub extern "C" fn path_length(block: u32) -> u32
 }
 
 /// The k-th key that the look-up of a block tries, from 0; 65,536 where there is none.
-#[unsafe(no_mangle)]
-pub extern "C" fn path_key(block: u32, k: u32) -> u32
+pub fn path_key(block: u32, k: u32) -> u32
     ensures { result ≡ key_on_path block k }
 {
     if block > 65535 {

@@ -4,7 +4,7 @@ use Rattle.faults.specs.declared.Fault.{Fault}
 use Rattle.blocks.specs.Blocks.{Placement}
 use Rattle.ledger.specs.Free.{free_from}
 use Rattle.ledger.specs.Store.{put}
-use Rattle.maps.specs.Steps.{Outcome, assign_step}
+use Rattle.maps.specs.Steps.{assign_step}
 use Rattle.pool.specs.Pool.{board_size}
 
 -- the place that is told, and what is taken and mapped then

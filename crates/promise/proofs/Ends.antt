@@ -1,5 +1,4 @@
 -- From what each part of a run says to what is promised of an end, and of two.
-use Prim.Native.Nat.{ℕ}
 use mathlib.Core.Path.{◌≡◌, refl, sym, ap₂, subst, subst₂}
 use mathlib.Core.List.{List, ◌++◌}
 use Rattle.blocks.specs.Blocks.{Contents}
@@ -9,7 +8,7 @@ use Rattle.ledger.specs.Store.{Shape, State, Ask, Told, outcome, final}
 use Rattle.ledger.proofs.Runs.{agree, books_on, sound_final}
 use Rattle.ledger.proofs.Steps.{sound_new}
 use Rattle.store.specs.Whole.{Whole}
-use Rattle.promise.specs.Ends.{End, Begins, Kept, Compared, after_own}
+use Rattle.promise.specs.Ends.{End, Kept, Compared, after_own}
 
 -- A list that ran on a store of this shape and state.
 pub record Ran (sh : Shape) (s : State) (qs : List Ask) (ts : List Told) (sh' : Shape) (s' : State) : Type 0 where

@@ -1,18 +1,15 @@
 -- Five bytes for each byte of the text and five more are enough.
-use Rattle.std.proofs.Common.{◌≡◌, ℕ, zero, suc, ◌+◌, ◌-◌, ◌*◌, ◌^◌, ◌<◌, ◌≤◌, Bool, true, false, cond, eqb, ◌⊎◌, List, [], ◌∷◌, ◌++◌, length, get_or, Some, None, Ok, Err, codes, decimal, Option, Result, sym, refl, ap, ◌∙◌, subst, inl, inr, arith, length-append}
+use Rattle.std.proofs.Common.{◌≡◌, ℕ, suc, ◌+◌, ◌^◌, ◌<◌, ◌≤◌, Bool, true, false, cond, eqb, ◌⊎◌, List, [], ◌∷◌, ◌++◌, length, Some, None, codes, decimal, Option, sym, refl, ap, inl, inr, arith, length-append}
 use Rattle.std.proofs.lemmas.Fmt.{length-decimal-le}
-use Rattle.std.proofs.lemmas.Bool.{cases_Bool, cond-true, cond-false}
-use Rattle.faults.specs.declared.Fault.{Fault}
 use Rattle.faults.specs.declared.Ground.{Ground}
 use Rattle.faults.specs.declared.Ground.TheVariants.{Mark, File, Block, Length, Buffer, BoardNumber, Line, Mapped, NoFreeBlock, TooManyKeys, TableFull}
 use Rattle.faults.specs.Grounds.{ground_number}
 use Rattle.commands.specs.declared.command.Command.{Command}
-use Rattle.commands.specs.declared.command.Command.TheVariants.{Assign, Clear, Find, Next, Keys}
+use Rattle.commands.specs.declared.command.Command.TheVariants.{Keys}
 use Rattle.commands.specs.declared.reply.Reply.{Reply}
 use Rattle.commands.specs.declared.reply.Reply.TheVariants.{Granted, Refused, At, Hole, NextAt, NoNext, Held}
-use Rattle.commands.specs.Commands.{reply_text, lettered, command_by_letter, command_in, assign_command, clear_command, find_command, next_command, keys_command}
+use Rattle.commands.specs.Commands.{reply_text, lettered, command_in, assign_command, clear_command, find_command, next_command, keys_command}
 use Rattle.lines.specs.Lines.{before, behind, fields, number, both}
-use Rattle.replies.specs.Console.{refusal}
 
 -- the numbers of a reply are as small as a console's are
 abbrev pub Small : Reply → Type 0

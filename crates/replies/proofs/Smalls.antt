@@ -1,12 +1,9 @@
 -- The numbers that the console prints are small.
-use Rattle.std.proofs.Common.{◌≡◌, ℕ, zero, suc, ◌+◌, ◌-◌, ◌*◌, ◌%◌, ◌^◌, ◌<◌, ◌≤◌, Bool, true, false, cond, ltb, ◌⊎◌, List, [], ◌∷◌, length, Some, None, Ok, Err, Option, Result, sym, refl, ap, ◌∙◌, subst, inl, inr, mod-lt, arith, pow_pos}
+use Rattle.std.proofs.Common.{◌≡◌, ℕ, zero, suc, ◌+◌, ◌-◌, ◌*◌, ◌%◌, ◌^◌, ◌<◌, ◌≤◌, ◌⊎◌, List, [], ◌∷◌, length, Some, None, Ok, Err, Option, sym, refl, subst, inl, inr, mod-lt, arith, pow_pos}
 use Rattle.std.proofs.lemmas.Bool.Decides.{nat_tests}
-use lib.Count.{ones, ones-le}
-use Rattle.std.proofs.lemmas.Bool.{cases_Bool, ltb-false, cond-false}
-use Rattle.faults.specs.declared.Fault.{Fault}
+use lib.Count.{ones-le}
 use Rattle.faults.specs.declared.Ground.{Ground}
 use Rattle.faults.specs.declared.Ground.TheVariants.{Line}
-use Rattle.faults.specs.Grounds.{ground_number}
 use Rattle.blocks.specs.Blocks.{Placement}
 use Rattle.blocks.specs.declared.Entry.{Entry}
 use Rattle.extents.specs.Extents.{KeyTable, path, only_here, tried_of, tried}
@@ -15,10 +12,8 @@ use Rattle.maps.specs.Steps.{Outcome, answer, ground_of_block, here_or, lowest_m
 use Rattle.key_rule.specs.Keyed.{keyed, rule_of_keys, OnBoard}
 use Rattle.commands.specs.declared.command.Command.{Command}
 use Rattle.commands.specs.declared.command.Command.TheVariants.{Assign, Clear, Find, Next, Keys}
-use Rattle.commands.specs.declared.reply.Reply.{Reply}
-use Rattle.commands.specs.declared.reply.Reply.TheVariants.{Granted, Refused, At, Hole, NextAt, NoNext, Held}
 use Rattle.commands.specs.Commands.{command_in, reply_text}
-use Rattle.replies.specs.Console.{console_room, refusal, change_reply, found_reply, reply_to_next, reply_to}
+use Rattle.replies.specs.Console.{console_room, change_reply, found_reply, reply_to_next, reply_to}
 use Rattle.replies.proofs.Lengths.{Small, ground_small, reply_short, keys_short, line_short, line_long}
 
 tried_few : (t : KeyTable) (xs : List ℕ) → tried_of t xs ≤ length xs

@@ -1,8 +1,7 @@
 -- A walk under way: the keys that are still to come.
-use Rattle.std.proofs.Common.{◌≡◌, ℕ, ◌+◌, ◌-◌, ◌<◌, ◌≤◌, List, [], ◌∷◌, ◌++◌, Some, None, Option, sym, refl, ap, ◌∙◌, subst, append_assoc, arith}
+use Rattle.std.proofs.Common.{◌≡◌, ℕ, ◌+◌, ◌-◌, List, [], ◌∷◌, ◌++◌, Some, None, sym, refl, ap, ◌∙◌, subst, append_assoc, arith}
 use Rattle.extents.specs.declared.key.Key.{Key}
 use Rattle.run_keys.specs.declared.walk.Walk.{Walk}
-use Rattle.extents.specs.Extents.{key}
 use Rattle.extents.specs.Runs.{run_map, ground_of_run, piece, walk, ListsKeys}
 use Rattle.run_keys.specs.Walks.{Stepped, Planned}
 use Rattle.extents.proofs.Greed.{walk_done, walk_step}

@@ -6,12 +6,12 @@ use Rattle.faults.specs.declared.Ground.TheVariants.{TooManyKeys, File}
 use Rattle.calls.specs.declared.Call.TheVariants.{Clear, Remove, Demote}
 use Rattle.calls.specs.declared.StoreFault.{StoreFault}
 use Rattle.calls.specs.declared.StoreFault.TheVariants.{FromMap}
-use Rattle.blocks.specs.Blocks.{Placement, Contents, zero_block, inside, every, changed}
+use Rattle.blocks.specs.Blocks.{Placement, Contents, zero_block, inside, changed}
 use Rattle.maps.specs.Steps.{fault_of}
 use Rattle.lowers.specs.Lowers.{ground_of_extent, extent_answer, Changes, Holds}
 use Rattle.admission.specs.Admission.{Admission, ground_of_file}
 use Rattle.claims.specs.Leaves.{Vacated, vacate_step, LeftFile, leave_file}
-use Rattle.walks.specs.Walks.{MapStays, BoardStays, Reaches, copied}
+use Rattle.walks.specs.Walks.{BoardStays, Reaches, copied}
 use Rattle.walks.proofs.Places.{freed_extent, placed_extent}
 use Rattle.ledger.specs.Store.{Shape, State, map_full, overfull, if_granted, placed, freed, bad_clear, clears, clear_answer, cleared, after_clear, file_answer, removed, after_remove, demoted, after_demote}
 use Rattle.ledger.proofs.Admits.{admitted_clear, clear_admitted, file_granted, is_below}

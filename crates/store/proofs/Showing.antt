@@ -1,5 +1,5 @@
 -- A read, by where the block lies.
-use Rattle.std.proofs.Common.{◌≡◌, ℕ, ◌<◌, Bool, List, length, Some, None, Ok, Option, Result, sym, refl, ap, ◌∙◌, arith}
+use Rattle.std.proofs.Common.{◌≡◌, ℕ, ◌<◌, List, length, Some, None, Ok, Option, Result, sym, ap, ◌∙◌}
 use Rattle.faults.specs.declared.Fault.{Fault}
 use Rattle.calls.specs.declared.Call.TheVariants.{Read}
 use Rattle.calls.specs.declared.Source.{Source}

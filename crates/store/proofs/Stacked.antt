@@ -1,21 +1,17 @@
 -- What a store shows once it was written to or cleared from above.
-use Rattle.std.proofs.Common.{◌≡◌, ℕ, ◌+◌, ◌<◌, ◌≤◌, Bool, true, false, cond, ◌&&◌, eqb, ltb, List, [], length, is_err, Some, None, Ok, Err, Option, Result, sym, refl, ap, ◌∙◌, inl, inr, arith}
+use Rattle.std.proofs.Common.{◌≡◌, ℕ, ◌+◌, ◌<◌, ◌≤◌, Bool, true, false, cond, ◌&&◌, eqb, List, [], length, is_err, Some, None, Ok, Err, Option, Result, sym, refl, ap, ◌∙◌, arith}
 use mathlib.Core.Path.{fun_ext}
-use Rattle.std.proofs.lemmas.Bool.{cases_Bool}
 use Rattle.std.proofs.lemmas.Bool.Decides.{nat_tests}
-use Rattle.calls.specs.declared.Call.{Call}
 use Rattle.calls.specs.declared.Call.TheVariants.{Write, Clear, Demote}
-use Rattle.calls.specs.declared.Granted.{Granted}
 use Rattle.calls.specs.declared.Granted.TheVariants.{Wrote, GaveBack}
 use Rattle.calls.specs.declared.StoreFault.{StoreFault}
 use Rattle.calls.specs.declared.Written.{Written}
-use Rattle.calls.specs.declared.Written.TheVariants.{Lower, Board}
 use Rattle.calls.specs.Answers.{Answer}
-use Rattle.blocks.specs.Blocks.{Placement, Contents, zero_block, only, inside, every, changed}
+use Rattle.blocks.specs.Blocks.{Placement, Contents, zero_block, only, inside, changed}
 use Rattle.maps.specs.Steps.{forgotten}
 use Rattle.ledger.specs.Book.{Book, fed}
 use Rattle.ledger.specs.Sound.{Sound}
-use Rattle.ledger.specs.Store.{Shape, State, Ask, bytes_at, shown, if_granted, as_any, write_answer, wrote, after_write, clear_answer, cleared, after_clear, file_answer, demoted, after_demote, bad_write, bad_clear}
+use Rattle.ledger.specs.Store.{Shape, State, bytes_at, shown, if_granted, as_any, write_answer, wrote, after_write, clear_answer, cleared, after_clear, demoted, after_demote, bad_write}
 use Rattle.ledger.proofs.Admits.{admits_write, admits_clear, write_replaces, write_lower, file_granted, clear_granted}
 use Rattle.ledger.proofs.Calls.{book_of, keeps}
 use Rattle.lowers.specs.Lowers.{block_answer, extent_answer, Changes}

@@ -1,4 +1,4 @@
-use Rattle.std.proofs.Common.{◌≡◌, ℕ, Err, Result, sym, ap, ◌∙◌}
+use Rattle.std.proofs.Common.{ℕ, Err, Result, sym, ap, ◌∙◌}
 use Rattle.std.proofs.lemmas.Result.{err_from_is_err_and}
 use Rattle.calls.specs.declared.StoreFault.{StoreFault}
 use Rattle.ledger.specs.Free.{goal as goal'}

@@ -1,4 +1,4 @@
-use Rattle.std.proofs.Common.{◌≡◌, ◌∙◌}
+use Rattle.std.proofs.Common.{◌∙◌}
 use Rattle.block_set.specs.Members.{member}
 use Rattle.pool.specs.Pool.{taken_in}
 use Rattle.claims.proofs.Giving.{leaves_file}

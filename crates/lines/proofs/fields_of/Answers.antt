@@ -1,4 +1,4 @@
-use Rattle.std.proofs.Common.{◌≡◌, ◌+◌, set, replicate, sym, refl, ap, ◌∙◌, subst}
+use Rattle.std.proofs.Common.{◌+◌, set, replicate, sym, ap, ◌∙◌, subst}
 use lib.ListN.{length-replicate}
 use Rattle.std.specs.Option.{option_map}
 use Rattle.lines.specs.Lines.{number}

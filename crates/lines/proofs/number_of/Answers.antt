@@ -1,4 +1,4 @@
-use Rattle.std.proofs.Common.{◌≡◌, ◌+◌, ◌*◌, ◌⊎◌, sym, subst, inl, inr}
+use Rattle.std.proofs.Common.{◌+◌, ◌*◌, sym, subst, inl, inr}
 use Rattle.lines.proofs.Values.{Valued, valued_next, no_digit, below_digits, above_digits, valued, shaped_yes}
 use Rattle.lines.proofs.number_of.Goals.{then-digit-lt48-via-then-digit-lt48, then-digit-lt48-via-else-digit-lt48+then-digit-gt-NINE, else-field-gt1-via-then-field-gt1+else-field-eq-ZERO, else-field-gt1-via-else-field-gt1}
 use Rattle.lines.proofs.number_of.Goals as goal

@@ -1,4 +1,4 @@
-use Rattle.std.proofs.Common.{◌≡◌, ap, ◌∙◌}
+use Rattle.std.proofs.Common.{ap, ◌∙◌}
 use Rattle.extents.specs.Extents.{says, lookup}
 use Rattle.look_ups.proofs.look_up.Goals as goal
 

@@ -1,6 +1,5 @@
 use Rattle.extents.proofs.Calls.{at_start, at_next, key_past, key_none, key_here}
 use native.Mathlib.Omega.{arith}
-use borrow.Author.Rules.{rules}
 use Rattle.paths.proofs.path_key.Goals as goal
 
 pub returns-then-block-gt65535 : goal.returns-then-block-gt65535

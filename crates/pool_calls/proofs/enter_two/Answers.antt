@@ -1,4 +1,4 @@
-use Rattle.std.proofs.Common.{◌≡◌, ℕ, None, Option, sym, ap, ◌∙◌}
+use Rattle.std.proofs.Common.{ℕ, Option, ap, ◌∙◌}
 use Rattle.maps.specs.Steps.{assign_step}
 use Rattle.pool.specs.Pool.{taken_in}
 use Rattle.pool_calls.specs.Two.{Told}

@@ -1,4 +1,4 @@
-use Rattle.std.proofs.Common.{◌≡◌, ◌+◌, ◌-◌, ◌*◌, ◌<◌, length, ap, ◌∙◌, arith, rules}
+use Rattle.std.proofs.Common.{◌+◌, ◌-◌, ◌*◌, ◌<◌, length, ap, ◌∙◌, arith, rules}
 use Rattle.memory.specs.Memory.{overlaid}
 use Rattle.memory.proofs.Overlays.{overlaid_put}
 use Rattle.boards.specs.Boards.{size_in, block_in}

@@ -1,4 +1,4 @@
-use Rattle.std.proofs.Common.{◌≡◌, ℕ, ◌+◌, ◌-◌, ◌<◌, ◌≤◌, ◌⊎◌, sym, refl, ap, ◌∙◌, subst, inl, inr, arith}
+use Rattle.std.proofs.Common.{arith}
 use Rattle.key_rule.proofs.Edges.{left_some, left_none}
 use Rattle.extent_map.proofs.edges.left_edge.Goals as goal
 

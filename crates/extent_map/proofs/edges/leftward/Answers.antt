@@ -1,4 +1,4 @@
-use Rattle.std.proofs.Common.{◌≡◌, ℕ, ◌+◌, ◌-◌, ◌<◌, ◌≤◌, ◌⊎◌, sym, refl, ap, ◌∙◌, subst, inl, inr, arith}
+use Rattle.std.proofs.Common.{refl, arith}
 use Rattle.key_rule.proofs.Edges.{lefting_start, lefting_next, left_window, left_hole, left_break}
 use Rattle.extent_map.proofs.edges.leftward.Goals as goal
 

@@ -1,4 +1,4 @@
-use Rattle.std.proofs.Common.{◌≡◌, ℕ, ◌+◌, ◌-◌, ◌<◌, ◌≤◌, ◌⊎◌, sym, refl, ap, ◌∙◌, subst, inl, inr, arith}
+use Rattle.std.proofs.Common.{arith}
 use Rattle.key_rule.proofs.Edges.{lowest_here, lowest_key, lowest_past, lowest_end, lowest_one}
 use Rattle.key_rule.proofs.Looks.{key_block}
 use Rattle.extent_map.proofs.edges.lowest_mapped.Goals as goal

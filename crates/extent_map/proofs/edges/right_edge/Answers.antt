@@ -1,4 +1,4 @@
-use Rattle.std.proofs.Common.{◌≡◌, ℕ, ◌+◌, ◌-◌, ◌<◌, ◌≤◌, ◌⊎◌, sym, refl, ap, ◌∙◌, subst, inl, inr, arith}
+use Rattle.std.proofs.Common.{arith}
 use Rattle.key_rule.proofs.Edges.{right_some, right_none}
 use Rattle.extent_map.proofs.edges.right_edge.Goals as goal
 

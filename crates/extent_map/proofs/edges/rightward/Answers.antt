@@ -1,4 +1,4 @@
-use Rattle.std.proofs.Common.{◌≡◌, ℕ, ◌+◌, ◌-◌, ◌<◌, ◌≤◌, ◌⊎◌, sym, refl, ap, ◌∙◌, subst, inl, inr, arith}
+use Rattle.std.proofs.Common.{refl, subst, arith}
 use Rattle.extents.specs.Extents.{IsKey}
 use Rattle.key_rule.specs.Keyed.{placing}
 use Rattle.key_rule.proofs.Edges.{righting_start, righting_next, right_window, right_hole, right_break}

@@ -1,4 +1,4 @@
-use Rattle.std.proofs.Common.{◌≡◌, ℕ, ◌+◌, ◌-◌, ◌<◌, ◌≤◌, ◌⊎◌, sym, refl, ap, ◌∙◌, subst, inl, inr, arith}
+use Rattle.std.proofs.Common.{sym, ◌∙◌, subst, arith}
 use Rattle.key_rule.specs.Keyed.{placing}
 use Rattle.key_rule.proofs.Looks.{held_key, held_is_key}
 use Rattle.extent_map.specs.Calls.{Fitting, StartsAt}

@@ -1,5 +1,4 @@
-use Rattle.std.proofs.Common.{◌≡◌, ℕ, ◌+◌, ◌-◌, ◌<◌, ◌≤◌, ◌⊎◌, Some, None, Option, sym, refl, ap, ◌∙◌, subst, inl, inr, arith}
-use Rattle.extents.specs.declared.key.Key.{Key}
+use Rattle.std.proofs.Common.{sym, ap, ◌∙◌, subst}
 use Rattle.look_ups.specs.declared.Held.{Held as Tried}
 use Rattle.key_rule.specs.Keyed.{placing}
 use Rattle.key_rule.specs.Mends.{Sane, Over}

@@ -1,4 +1,4 @@
-use Rattle.std.proofs.Common.{◌≡◌, ◌+◌, ◌-◌, ◌<◌, ◌≤◌}
+use Rattle.std.proofs.Common.{◌≡◌, ◌+◌, ◌-◌, ◌≤◌}
 use Rattle.blocks.specs.Blocks.{tally}
 use Rattle.extents.specs.Extents.{Barrier}
 use Rattle.key_rule.specs.Keyed.{Held, placing}

@@ -1,4 +1,4 @@
-use Rattle.std.proofs.Common.{◌≡◌, ℕ, ◌+◌, ◌-◌, ◌<◌, ◌≤◌, ◌⊎◌, Some, None, sym, refl, ap, ◌∙◌, subst, inl, inr, arith}
+use Rattle.std.proofs.Common.{◌≡◌, ◌+◌, ◌<◌, None, sym, refl, ap, ◌∙◌, arith}
 use Rattle.key_rule.specs.Mends.{update, blend, none}
 use Rattle.tables.specs.Holding.{Holding}
 use Rattle.key_rule.proofs.Tallies.{blend_empty}

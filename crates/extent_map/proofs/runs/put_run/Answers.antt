@@ -1,6 +1,6 @@
-use Rattle.std.proofs.Common.{◌≡◌, ℕ, ◌+◌, ◌-◌, ◌<◌, ◌≤◌, ◌⊎◌, sym, refl, ap, ◌∙◌, subst, inl, inr, arith}
+use Rattle.std.proofs.Common.{◌≡◌, ◌<◌, sym, refl, ap, ◌∙◌, subst, arith}
 use Rattle.blocks.specs.Blocks.{tally}
-use Rattle.extents.specs.Extents.{key_at, entry}
+use Rattle.extents.specs.Extents.{key_at}
 use Rattle.extents.proofs.Sizes.{next_piece}
 use Rattle.key_rule.specs.Mends.{blend}
 use Rattle.key_rule.proofs.Tallies.{blend_empty}

@@ -1,7 +1,6 @@
-use Rattle.std.proofs.Common.{◌≡◌, ℕ, ◌+◌, ◌-◌, ◌<◌, ◌≤◌}
+use Rattle.std.proofs.Common.{◌≡◌, ◌+◌, ◌-◌, ◌<◌, ◌≤◌}
 use Rattle.blocks.specs.Blocks.{tally}
 use Rattle.extents.specs.Extents.{FileMap, Barrier, key_at}
-use Rattle.tables.specs.Holding.{Holding}
 use Rattle.key_rule.specs.Mends.{blend, Lay, Empty}
 use Rattle.extent_map.proofs.runs.put_run.Given as goal
 

@@ -1,4 +1,4 @@
-use Rattle.std.proofs.Common.{◌≡◌, ℕ, ◌+◌, ◌-◌, ◌<◌, ◌≤◌, ◌⊎◌, sym, refl, ap, ◌∙◌, subst, inl, inr, arith}
+use Rattle.std.proofs.Common.{sym, arith}
 use Rattle.key_rule.proofs.Drops.{sought_end, sought_row, sought_past}
 use Rattle.extent_map.proofs.runs.seek.Goals as goal
 

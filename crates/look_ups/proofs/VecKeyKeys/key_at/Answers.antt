@@ -1,4 +1,4 @@
-use Rattle.std.proofs.Common.{◌≡◌, sym, ap, ◌∙◌}
+use Rattle.std.proofs.Common.{sym, ap, ◌∙◌}
 use Rattle.extents.specs.Runs.{table_of}
 use Rattle.extents.proofs.OneRun.{table_here, table_past, table_end}
 use Rattle.look_ups.proofs.VecKeyKeys.key_at.Goals as goal

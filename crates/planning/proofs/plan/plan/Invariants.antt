@@ -1,4 +1,4 @@
-use Rattle.lines.specs.Lines.{lines, unread}
+use Rattle.lines.specs.Lines.{unread}
 use Rattle.std.proofs.Common.{string_bytes}
 use Rattle.planning.proofs.Counts.{Planning}
 use Rattle.planning.proofs.plan.plan.Given as goal

@@ -1,4 +1,4 @@
-use Rattle.std.proofs.Common.{◌≡◌, ◌+◌, max, vec_items, sym, ap, ◌∙◌, subst}
+use Rattle.std.proofs.Common.{◌+◌, vec_items, sym, ap, ◌∙◌, subst}
 use Rattle.blocks.specs.Blocks.{one}
 use Rattle.extents.specs.Runs.{table_of}
 use Rattle.planning.specs.Plans.{is_at}

@@ -1,4 +1,4 @@
-use Rattle.std.proofs.Common.{◌≡◌, ◌++◌, string_bytes, ap, ◌∙◌}
+use Rattle.std.proofs.Common.{◌++◌, string_bytes, ap, ◌∙◌}
 use Rattle.planning.specs.Plans.{keys_text}
 use Rattle.planning.proofs.Texts.{keys_next, keys_done}
 use Rattle.planning.proofs.plan.write_keys.Goals as goal

@@ -1,4 +1,4 @@
-use Rattle.std.proofs.Common.{◌≡◌, ◌++◌, vec_items, ap, ◌∙◌}
+use Rattle.std.proofs.Common.{◌++◌, vec_items, ap, ◌∙◌}
 use Rattle.run_keys.proofs.Walking.{to_come, to_come_first, to_come_step, to_come_none, joined, whole}
 use Rattle.run_keys.proofs.run.keys_of_run.Goals as goal
 

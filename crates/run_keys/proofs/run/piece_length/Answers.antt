@@ -1,5 +1,4 @@
-use Rattle.std.proofs.Common.{◌≡◌, ◌-◌, min, arith}
-use lib.Count.{count_trailing_zeros, count_leading_zeros}
+use Rattle.std.proofs.Common.{arith}
 use Rattle.extents.proofs.Sizes.{piece_by_zeros}
 use Rattle.run_keys.proofs.run.piece_length.Goals as goal
 

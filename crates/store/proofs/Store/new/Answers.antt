@@ -1,8 +1,3 @@
-use Rattle.std.proofs.Common.{◌≡◌, ℕ, Bool, refl, ap}
-use Rattle.blocks.specs.Blocks.{Placement}
-use Rattle.ledger.specs.Sound.{New}
-use Rattle.ledger.specs.Store.{Shape, State}
-use Rattle.ledger.proofs.Steps.{sound_new}
 use Rattle.store.proofs.Parts.{made}
 use Rattle.store.proofs.Store.new.Goals as goal
 

@@ -1,4 +1,3 @@
-use Rattle.std.proofs.Common.{◌≡◌, ap, ◌∙◌}
 use Rattle.std.proofs.lemmas.Result.{err_from_is_err_and}
 use Rattle.store.proofs.Parts.{clauses}
 use Rattle.store.proofs.Leaving.{not_admitted, keeps_all, clears_all}

@@ -1,4 +1,4 @@
-use Rattle.std.proofs.Common.{◌≡◌, ◌∙◌}
+use Rattle.std.proofs.Common.{◌∙◌}
 use Rattle.store.proofs.Parts.{clauses}
 use Rattle.store.proofs.Leaving.{in_files, in_reach, demotes}
 use Rattle.store.proofs.StoreBlockStore.demote.Goals as goal

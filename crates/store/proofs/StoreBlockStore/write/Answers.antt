@@ -1,4 +1,4 @@
-use Rattle.std.proofs.Common.{◌≡◌, ◌≤◌, ◌≢◌, ap, ◌∙◌, arith}
+use Rattle.std.proofs.Common.{◌≢◌, arith}
 use Rattle.std.proofs.lemmas.Result.{err_from_is_err_and}
 use Rattle.store.proofs.Parts.{clauses}
 use Rattle.store.proofs.Writing.{not_admitted, replaces, goes_down, not_claimed, is_claimed}

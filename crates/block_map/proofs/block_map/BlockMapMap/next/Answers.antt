@@ -1,4 +1,4 @@
-use Rattle.std.proofs.Common.{◌-◌, refl}
+use Rattle.std.proofs.Common.{refl}
 use Rattle.block_map.specs.Lowest.{next_none, next_some}
 use Rattle.block_map.specs.Granted.{answered}
 use Rattle.block_map.proofs.block_map.BlockMapMap.next.Goals as goal

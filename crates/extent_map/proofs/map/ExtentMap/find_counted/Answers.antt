@@ -1,4 +1,4 @@
-use Rattle.std.proofs.Common.{◌≡◌, ◌∙◌}
+use Rattle.std.proofs.Common.{◌∙◌}
 use Rattle.extent_map.proofs.Counted.{counted_same, counted_refused, counted_found}
 use Rattle.extent_map.proofs.map.ExtentMap.find_counted.Goals as goal
 

@@ -1,4 +1,4 @@
-use Rattle.std.proofs.Common.{◌≡◌, ℕ, ◌+◌, ◌-◌, ◌<◌, ◌≤◌, ◌⊎◌, sym, refl, ap, ◌∙◌, subst, inl, inr, arith}
+use Rattle.std.proofs.Common.{sym, ◌∙◌}
 use Rattle.key_rule.proofs.Changes.{exact}
 use Rattle.extent_map.proofs.map.ExtentMap.keys_held.Goals as goal
 

@@ -1,4 +1,4 @@
-use Rattle.std.proofs.Common.{◌≡◌, ℕ, ◌+◌, ◌-◌, ◌<◌, ◌≤◌, ◌⊎◌, sym, refl, ap, ◌∙◌, subst, inl, inr, arith}
+use Rattle.std.proofs.Common.{sym, ap, ◌∙◌, subst}
 use Rattle.key_rule.specs.Keyed.{Held, placing}
 use Rattle.key_rule.proofs.Changes.{held_nothing, placing_nothing}
 use Rattle.extent_map.proofs.map.ExtentMap.new.Goals as goal

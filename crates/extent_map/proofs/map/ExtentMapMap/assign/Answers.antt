@@ -1,4 +1,4 @@
-use Rattle.std.proofs.Common.{◌≡◌, ℕ, ◌+◌, ◌-◌, ◌<◌, ◌≤◌, sym, refl, ap, ◌∙◌, subst, arith}
+use Rattle.std.proofs.Common.{sym, subst}
 use Rattle.maps.specs.Steps.{assigned, ground_of_assign, lowest_mapped_block}
 use Rattle.key_rule.specs.Keyed.{Held, placing}
 use Rattle.key_rule.proofs.Changes.{assign_mending, held_assigned, after_extent}

@@ -1,4 +1,4 @@
-use Rattle.std.proofs.Common.{◌≡◌, ℕ, ◌+◌, ◌-◌, ◌<◌, ◌≤◌, sym, refl, ap, ◌∙◌, subst, arith}
+use Rattle.std.proofs.Common.{sym, subst}
 use Rattle.maps.specs.Steps.{cleared, ground_of_extent}
 use Rattle.key_rule.specs.Keyed.{Held, placing}
 use Rattle.key_rule.proofs.Changes.{clear_mending, held_cleared}

@@ -1,4 +1,4 @@
-use Rattle.std.proofs.Common.{◌≡◌, ℕ, ◌+◌, ◌-◌, ◌<◌, ◌≤◌, sym, refl, ap, ◌∙◌, subst, arith}
+use Rattle.std.proofs.Common.{refl, ap}
 use Rattle.look_ups.specs.declared.Found.{Found}
 use Rattle.maps.specs.Steps.{ground_of_block}
 use Rattle.key_rule.specs.Keyed.{placing}

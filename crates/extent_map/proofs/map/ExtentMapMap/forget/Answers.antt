@@ -1,4 +1,4 @@
-use Rattle.std.proofs.Common.{◌≡◌, ℕ, ◌+◌, ◌-◌, ◌<◌, ◌≤◌, sym, refl, ap, ◌∙◌, subst, arith}
+use Rattle.std.proofs.Common.{sym, refl, ◌∙◌, subst, arith}
 use Rattle.extents.proofs.Barriers.{barrier_multiple}
 use Rattle.key_rule.specs.Keyed.{Held}
 use Rattle.key_rule.proofs.Changes.{forgotten_keys, held_forgotten}

@@ -1,4 +1,4 @@
-use Rattle.std.proofs.Common.{ℕ, ◌+◌, ◌-◌, ◌*◌, ◌<◌, ◌≤◌, List, length, replicate, sym, refl, ap, ◌∙◌, subst, arith, rules}
+use Rattle.std.proofs.Common.{ℕ, ◌+◌, ◌*◌, ◌<◌, ◌≤◌, List, length, replicate, sym, refl, ap, ◌∙◌, subst, arith, rules}
 use Rattle.memory.specs.Memory.{overlaid}
 use Rattle.memory.proofs.Overlays.{overlaid_fill}
 use Rattle.flat.specs.Flat.{bytes_in, Laid}

@@ -1,4 +1,4 @@
-use Rattle.std.proofs.Common.{◌≡◌, ℕ, sym, ◌∙◌, ap₂}
+use Rattle.std.proofs.Common.{ℕ, sym, ◌∙◌, ap₂}
 use Rattle.lowers.specs.Lowers.{extent_answer}
 use Rattle.store.proofs.Stacked.{clears_it, clears_demoted}
 use Rattle.store.proofs.below.StoreLower.clear.Goals as goal

@@ -1,4 +1,4 @@
-use Rattle.std.proofs.Common.{◌≡◌, ℕ, length, sym, ◌∙◌, ap₂}
+use Rattle.std.proofs.Common.{ℕ, length, sym, ◌∙◌, ap₂}
 use Rattle.lowers.specs.Lowers.{block_answer}
 use Rattle.store.proofs.Stacked.{keeps_it, falls_back}
 use Rattle.store.proofs.below.StoreLower.write.Goals as goal

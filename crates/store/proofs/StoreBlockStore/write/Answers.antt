@@ -1,4 +1,4 @@
-use Rattle.std.proofs.Common.{◌≢◌, arith}
+use Rattle.std.proofs.Common.{◌≡◌, ◌≢◌, arith}
 use Rattle.std.proofs.lemmas.Result.{err_from_is_err_and}
 use Rattle.store.proofs.Parts.{clauses}
 use Rattle.store.proofs.Writing.{not_admitted, replaces, goes_down, not_claimed, is_claimed}
@@ -18,9 +18,11 @@ returns-in-Some g c = clauses (λ v.
     (c.board_of.ensures.map v.map_valid).stays_valid)
 
 pub returns-in-None : goal.returns-in-None
-returns-in-None g c = clauses (λ v.
+returns-in-None g c =
+    let loose : c.args.mark ≡ 0 = omega arith in
+    clauses (λ v.
     goes_down c.args.file c.args.block c.args.mark c.args.from.now v (c.admit_write.ensures v.lower_valid) c.in_ok-admit_write.was
-    (c.board_of.ensures.map v.map_valid).same_room (c.board_of.ensures.map v.map_valid).same_place (c.in-None.ensures.answer v.map_valid) c.if-mark-eq0.true
+    (c.board_of.ensures.map v.map_valid).same_room (c.board_of.ensures.map v.map_valid).same_place (c.in-None.ensures.answer v.map_valid) loose
     (c.write-in-None.ensures v.lower_valid) (c.board_of.ensures.map v.map_valid).stays_valid)
 
 pub returns-in_err-number-in-None-2 : goal.returns-in_err-number-in-None-2

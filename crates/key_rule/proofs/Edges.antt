@@ -160,7 +160,7 @@ barrier_right n x v o e (inr w) =
     let step : x - 1 + 1 ≡ x = omega arith in
     subst (Barrier n) step (barrier_break n (x - 1) v e (λ s. w (sym (ap n step) ∙ s)))
 
--- ---- the lowest_mapped_block mapped block
+-- ---- the lowest mapped block
 
 pub unmapped_from : (m : FileMap) (first y : ℕ) → m first ≡ None → ((c : ℕ) → first < c → c < y → key_at m c ≡ None) → (d : ℕ) → first + d < y → m (first + d) ≡ None
 unmapped_from m first y e free zero o = let z : first + 0 ≡ first = omega arith in ap m z ∙ e

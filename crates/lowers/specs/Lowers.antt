@@ -28,9 +28,11 @@ ground_of_extent files width file first n = first_ground (
 abbrev pub lower_answer : ℕ → ℕ → (ground : Option Ground) → Result (Unit {0}) Fault
 lower_answer file block ground = answered Lower file block ground
 
+-- The answer to a read or write of one block, where there are so many files of so many blocks, with a buffer of so many bytes.
 abbrev pub block_answer : ℕ → ℕ → ℕ → ℕ → ℕ → Result (Unit {0}) Fault
 block_answer files width file block buffer = lower_answer file block (ground_of_block files width file block buffer)
 
+-- The answer to a clear of the n blocks from the first on.
 abbrev pub extent_answer : ℕ → ℕ → ℕ → ℕ → ℕ → Result (Unit {0}) Fault
 extent_answer files width file first n = lower_answer file first (ground_of_extent files width file first n)
 

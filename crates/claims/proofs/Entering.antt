@@ -5,12 +5,12 @@ use Rattle.std.proofs.lemmas.Bool.{cases_eq, cond-false, ne_eqb, and_right}
 use Rattle.std.proofs.lemmas.Bool.Decides.{nat_tests}
 use Rattle.faults.specs.declared.Fault.{Fault}
 use Rattle.faults.specs.declared.Ground.{Ground}
-use Rattle.faults.specs.declared.Ground.TheVariants.{TooManyKeys}
+use Rattle.faults.specs.declared.Ground.TheVariants.{NoFreeBlock, TooManyKeys}
 use Rattle.calls.specs.declared.StoreFault.{StoreFault}
 use Rattle.calls.specs.declared.StoreFault.TheVariants.{FromMap}
 use Rattle.blocks.specs.Blocks.{Placement, only, inside, changed}
-use Rattle.ledger.specs.Free.{first_free, free_from, or_else}
-use Rattle.ledger.specs.Store.{put}
+use Rattle.ledger.specs.Free.{goal, first_free, free_from, or_else}
+use Rattle.ledger.specs.Store.{put, own, map_full}
 use Rattle.ledger.proofs.Search.{found_free}
 use Rattle.maps.specs.Steps.{Outcome, fault_of, assign_step, ground_of_assign, assigned, lowest_mapped_block, here_or, if_room, unless_ground, unless_mapped}
 use Rattle.pool.specs.Enter.{entered, map_answer, settled_answer, settled_taken}
@@ -18,19 +18,19 @@ use Rattle.pool.specs.Pool.{board_size, number_in, taken_also}
 use Rattle.pool.proofs.Tokens.{put_back}
 use Rattle.pool.specs.declared.Refusal.{Refusal}
 use Rattle.pool.specs.declared.Taken.{Taken}
-use Rattle.claims.specs.Claims.{Claimed, entering, claimed}
+use Rattle.claims.specs.Claims.{Claimed, by_map, claimed, claim_step}
 
 -- ---- the search
 
 -- on a board of no blocks nothing is found, whatever the goal
-pub free_goal : (t : ℕ → Bool) (size from goal : ℕ) → (0 < size → from ≡ goal) → free_from t size from ≡ free_from t size goal
+free_goal : (t : ℕ → Bool) (size from goal : ℕ) → (0 < size → from ≡ goal) → free_from t size from ≡ free_from t size goal
 free_goal t zero from goal e = none from ∙ sym (none goal)
   where
     none : (k : ℕ) → free_from t 0 k ≡ None
     none k = ap (λ (n : ℕ). or_else (first_free t k n) None) (let z : 0 - k ≡ 0 = omega arith in z)
 free_goal t (suc n) from goal e = ap (free_from t (suc n)) (e (omega arith))
 
-pub whole_board : (size : ℕ) → size ≤ 4096 → board_size size ≡ size
+whole_board : (size : ℕ) → size ≤ 4096 → board_size size ≡ size
 whole_board size l = omega arith
 
 -- ---- the map
@@ -90,38 +90,58 @@ settling t q token (Err r) f h =
 lift : Settled → Claimed
 lift w = (lifted w.0, w.1, w.2)
 
-answered : (rule : Placement → ℕ) (room : ℕ) (t : ℕ → Bool) (pl q : Placement) (file block p : ℕ)
-    → ◌≡◌ {A = Claimed} (lift (by_answer t p (if_room rule room pl q file block))) (entering rule room t pl q file block p)
+lift_answer : (t : ℕ → Bool) (p : ℕ) (out : Outcome) → ◌≡◌ {A = Claimed} (lift (by_answer t p out)) (by_map t p out)
 unfolding by_answer lift
-answered rule room t pl q file block p = go (ltb room (rule q))
-  where
-    go : (v : Bool) → ◌≡◌ {A = Claimed} (lift (by_answer t p (cond v (Err (fault_of TooManyKeys file block), pl) (Ok tt, q))))
-        (cond v (Err (FromMap (fault_of TooManyKeys file block)), t, pl) (Ok p, put t p true, q))
-    go true = refl
-    go false = refl
+lift_answer t p (Ok u, q) = refl
+lift_answer t p (Err f, q) = refl
 
 -- ---- both together
 
 pub entered_claim : (rule : Placement → ℕ) (room size file block from goal : ℕ) (t t1 t2 : ℕ → Bool) (pl pl₁ q : Placement) (room₁ : ℕ) (o : Option Taken) (token : Taken)
     (er : Result ℕ Refusal) (ans : Result ℕ Fault)
-    → room₁ ≡ room → pl₁ ≡ pl
-    → file < 65536 → block < 65536 → size ≤ 4096 → pl file block ≡ None → (0 < size → from ≡ goal)
+    → room₁ ≡ room → pl₁ ≡ pl → (0 < size → from ≡ goal)
     → number_in o ≡ free_from t (board_size size) from → o ≡ Some token → t1 ≡ taken_also t (free_from t (board_size size) from)
     → er ≡ entered token (map_answer er) → ◌≡◌ {A = Outcome} (map_answer er, q) (assign_step rule room₁ pl₁ file block 1 token.number)
     → ans ≡ settled_answer er → t2 ≡ settled_taken t1 er
-    → ◌≡◌ {A = Claimed} (lifted ans, t2, q) (claimed rule room t pl file block (free_from t size goal))
+    → ◌≡◌ {A = Claimed} (lifted ans, t2, q) (claimed rule room t pl file block (free_from t (board_size size) goal))
 unfolding lift
-entered_claim rule room size file block from goal t t1 t2 pl pl₁ q room₁ o token er ans er₁ es lf lb ls un eg f is a h s an b =
+entered_claim rule room size file block from goal t t1 t2 pl pl₁ q room₁ o token er ans er₁ es eg f is a h s an b =
     let p = token.number in
     let e : free_from t (board_size size) from ≡ Some token.number = sym f ∙ ap number_in is in
-    let e' : free_from t size goal ≡ Some token.number =
-    sym (free_goal t size from goal eg) ∙ sym (ap (λ (n : ℕ). free_from t n from) (whole_board size ls)) ∙ e in
-    let free = found_free t size goal token.number e' in
-    let lp : token.number < 4096 = omega (arith, free.0) in
+    let e' : free_from t (board_size size) goal ≡ Some token.number =
+    sym (free_goal t (board_size size) from goal (λ z. eg (omega arith))) ∙ e in
+    let free = found_free t (board_size size) goal token.number e' in
     let u : t1 ≡ put t token.number true = a ∙ ap (taken_also t) e in
     let v : t2 ≡ settled_taken (put t token.number true) er = b ∙ ap (λ (w : ℕ → Bool). settled_taken w er) u in
     let z : ◌≡◌ {A = Settled} (ans, t2, q) (by_answer t token.number (map_answer er, q)) =
     ap₂ (λ (x : Result ℕ Fault) (y : ℕ → Bool). let w : Settled = (x, y, q) in w) an v ∙ settling t q token er free.1 h in
-    ap lift (z ∙ ap (by_answer t token.number) (s ∙ ap₂ (λ (k : ℕ) (w : Placement). assign_step rule k w file block 1 token.number) er₁ es ∙ assign_one rule room pl file block token.number lf lb lp un))
-    ∙ answered rule room t pl (changed pl file (only block) (λ _. Some token.number)) file block token.number
+    ap lift (z ∙ ap (by_answer t token.number) (s ∙ ap₂ (λ (k : ℕ) (w : Placement). assign_step rule k w file block 1 token.number) er₁ es))
+    ∙ lift_answer t token.number (assign_step rule room pl file block 1 token.number)
     ∙ sym (ap (claimed rule room t pl file block) e')
+
+-- ---- a block within the numbers that has no place
+
+-- The block with this place, unless the map then calls for more keys than it has room for.
+abbrev pub entering : (Placement → ℕ) → ℕ → (ℕ → Bool) → Placement → ℕ → ℕ → Option ℕ → Claimed
+entering rule room t pl file block None = (Err (own NoFreeBlock file block), t, pl)
+entering rule room t pl file block (Some p) = cond (ltb room (rule (changed pl file (only block) (λ _. Some p))))
+    (Err (map_full file block), t, pl) (Ok p, put t p true, changed pl file (only block) (λ _. Some p))
+
+pub claims_within : (rule : Placement → ℕ) (room size : ℕ) (t : ℕ → Bool) (pl : Placement) (file block : ℕ)
+    → file < 65536 → block < 65536 → size ≤ 4096 → pl file block ≡ None
+    → claim_step rule room size t pl file block ≡ entering rule room t pl file block (free_from t size (goal size (pl file) block))
+claims_within rule room size t pl file block lf lb ls un =
+    ap (λ (n : ℕ). claimed rule room t pl file block (free_from t n (goal size (pl file) block))) (whole_board size ls)
+    ∙ go (free_from t size (goal size (pl file) block)) refl
+  where
+    by_room : (p : ℕ) (v : Bool) → ◌≡◌ {A = Claimed} (by_map t p (cond v (Err (fault_of TooManyKeys file block), pl) (Ok tt, changed pl file (only block) (λ _. Some p))))
+        (cond v (Err (map_full file block), t, pl) (Ok p, put t p true, changed pl file (only block) (λ _. Some p)))
+    by_room p true = refl
+    by_room p false = refl
+
+    go : (o : Option ℕ) → free_from t size (goal size (pl file) block) ≡ o → claimed rule room t pl file block o ≡ entering rule room t pl file block o
+    go None e = refl
+    go (Some p) e =
+        let free = found_free t size (goal size (pl file) block) p e in
+        ap (by_map t p) (assign_one rule room pl file block p lf lb (omega (arith, free.0)) un)
+        ∙ by_room p (ltb room (rule (changed pl file (only block) (λ _. Some p))))

@@ -41,7 +41,7 @@ pub fn claim<M: Map>(
 ) -> Result<u32, StoreFault>
     ensures kept { M.Map.valid map.old → M.Map.valid map.new }
     ensures room { M.Map.valid map.old → M.Map.room map.new ≡ M.Map.room map.old }
-    ensures step { M.Map.valid map.old → file < 65536 → block < 65536 → size ≤ 4096 → M.Map.placed map.old file block ≡ None → ◌≡◌ {A = Claimed} (result, taken_in pool.new, M.Map.placed map.new) (claim_step M.Map.rule (M.Map.room map.old) size (taken_in pool.old) (M.Map.placed map.old) file block) }
+    ensures step { M.Map.valid map.old → ◌≡◌ {A = Claimed} (result, taken_in pool.new, M.Map.placed map.new) (claim_step M.Map.rule (M.Map.room map.old) size (taken_in pool.old) (M.Map.placed map.old) file block) }
 {
     let goal = goal_of(map, size, file, block);
     let Some(token) = pool.take(goal, size) else {
@@ -68,7 +68,7 @@ pub fn vacate<M: Map>(
 ) -> Result<u32, Fault>
     ensures kept { M.Map.valid map.old → M.Map.valid map.new }
     ensures room { M.Map.valid map.old → M.Map.room map.new ≡ M.Map.room map.old }
-    ensures step { M.Map.valid map.old → file < 65536 → first + n ≤ 65536 → 0 < n → n ≤ 4096 → ◌≡◌ {A = Vacated} (result, taken_in pool.new, M.Map.placed map.new) (vacate_step M.Map.rule (M.Map.room map.old) (taken_in pool.old) (M.Map.placed map.old) file first n) }
+    ensures step { M.Map.valid map.old → ◌≡◌ {A = Vacated} (result, taken_in pool.new, M.Map.placed map.new) (vacate_step M.Map.rule (M.Map.room map.old) (taken_in pool.old) (M.Map.placed map.old) file first n) }
 {
     let leaving = gather(map, file, first, first.saturating_add(n));
     map.clear(file, first, n)?;
@@ -80,7 +80,7 @@ pub fn vacate<M: Map>(
 pub fn vacate_file<M: Map>(map: &mut M, pool: &mut Pool, file: u32, width: u32) -> u32
     ensures kept { M.Map.valid map.old → M.Map.valid map.new }
     ensures room { M.Map.valid map.old → M.Map.room map.new ≡ M.Map.room map.old }
-    ensures step { M.Map.valid map.old → file < 65536 → ◌≡◌ {A = LeftFile} (result, taken_in pool.new, M.Map.placed map.new) (leave_file (taken_in pool.old) (M.Map.placed map.old) file width) }
+    ensures step { M.Map.valid map.old → ◌≡◌ {A = LeftFile} (result, taken_in pool.new, M.Map.placed map.new) (leave_file (taken_in pool.old) (M.Map.placed map.old) file width) }
 {
     let leaving = gather(map, file, 0, width);
     // The number of a file that is there is not refused.

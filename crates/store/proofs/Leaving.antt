@@ -10,7 +10,8 @@ use Rattle.blocks.specs.Blocks.{Placement, Contents, zero_block, inside, changed
 use Rattle.maps.specs.Steps.{fault_of}
 use Rattle.lowers.specs.Lowers.{ground_of_extent, extent_answer, Changes, Holds}
 use Rattle.admission.specs.Admission.{Admission, ground_of_file}
-use Rattle.claims.specs.Leaves.{Vacated, vacate_step, LeftFile, leave_file}
+use Rattle.claims.specs.Leaves.{Vacated, leaving, vacate_step, LeftFile, leave_file}
+use Rattle.claims.proofs.Giving.{vacates_within}
 use Rattle.walks.specs.Walks.{BoardStays, Reaches, copied}
 use Rattle.walks.proofs.Places.{freed_extent, placed_extent}
 use Rattle.ledger.specs.Store.{Shape, State, map_full, overfull, if_granted, placed, freed, bad_clear, clears, clear_answer, cleared, after_clear, file_answer, removed, after_remove, demoted, after_demote}
@@ -48,10 +49,10 @@ module _ {sh : Shape} {s : State} (file first n : ℕ) {map board lower : Type 0
       ∙ sym (freed_extent s.taken (s.place file) first n sh.width bounds.1)
 
   module _ {map' : Type 0} {keys' : ℕ} {place' : Placement} {taken' : ℕ → Bool} {told : Result ℕ Fault} (ek : keys' ≡ sh.keys)
-      (step : file < 65536 → first + n ≤ 65536 → 0 < n → n ≤ 4096
-      → ◌≡◌ {A = Vacated} (told, taken', place') (vacate_step sh.rule sh.keys s.taken s.place file first n)) (m : map') where
-    vacates : ◌≡◌ {A = Vacated} (told, taken', place') (vacate_step sh.rule sh.keys s.taken s.place file first n)
-    vacates = step (omega (arith, adm.few_files, bounds.0)) (omega (arith, adm.narrow, bounds.1)) bounds.2 bounds.3
+      (step : ◌≡◌ {A = Vacated} (told, taken', place') (vacate_step sh.rule sh.keys s.taken s.place file first n)) (m : map') where
+    vacates : ◌≡◌ {A = Vacated} (told, taken', place') (leaving sh.rule sh.keys s.taken s.place left file first n)
+    vacates = step ∙ vacates_within sh.rule sh.keys s.taken s.place file first n
+        (omega (arith, adm.few_files, bounds.0)) (omega (arith, adm.narrow, bounds.1)) bounds.2 bounds.3
 
     refusal : (f : Fault) → told ≡ Err f → (clears sh s.place file first n ≡ Err (FromMap f)) × (taken' ≡ s.taken) × (place' ≡ s.place)
     refusal f e = go (overfull sh left) vacates
@@ -125,9 +126,9 @@ module _ {sh : Shape} {s : State} (file : ℕ) {map board lower : Type 0} (v : W
 
   -- its places go, with a lower store that is left so
   module _ {map' : Type 0} {width₁ keys' told : ℕ} {place' place₁ : Placement} {taken' : ℕ → Bool} (ek : keys' ≡ sh.keys) (ep : place₁ ≡ s.place) (ew : width₁ ≡ sh.width)
-      (step : file < 65536 → ◌≡◌ {A = LeftFile} (told, taken', place') (leave_file s.taken place₁ file width₁)) (m : map') where
+      (step : ◌≡◌ {A = LeftFile} (told, taken', place') (leave_file s.taken place₁ file width₁)) (m : map') where
     left_file : ◌≡◌ {A = LeftFile} (told, taken', place') (leave_file s.taken s.place file sh.width)
-    left_file = step (omega (arith, adm.few_files, within)) ∙ (λ i. leave_file s.taken (ep i) file (ew i))
+    left_file = step ∙ (λ i. leave_file s.taken (ep i) file (ew i))
 
     due : file_answer sh s file ≡ Ok told
     due = file_granted sh s file within ∙ ap Ok (sym (ap (λ (x : LeftFile). x.0) left_file))

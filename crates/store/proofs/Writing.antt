@@ -9,7 +9,8 @@ use Rattle.calls.specs.declared.Written.TheVariants.{Lower, Board}
 use Rattle.blocks.specs.Blocks.{Placement, Contents, only, changed}
 use Rattle.boards.specs.Boards.{ReplacesBlock}
 use Rattle.lowers.specs.Lowers.{Changes, block_answer}
-use Rattle.claims.specs.Claims.{Claimed, claim_step, claimed}
+use Rattle.claims.specs.Claims.{Claimed, claim_step}
+use Rattle.claims.proofs.Entering.{entering, claims_within}
 use Rattle.ledger.specs.Free.{goal}
 use Rattle.ledger.specs.Store.{Shape, State, put, own, map_full, overfull, if_granted, bad_write, takes, free_for, write_answer, wrote, after_write}
 use Rattle.ledger.proofs.Admits.{admitted_write, write_replaces, write_lower, write_takes}
@@ -25,7 +26,7 @@ module _ (sh : Shape) (s : State) (file block : ℕ) where
   with_place p = changed s.place file (only block) (λ _. Some p)
 
   abbrev claimed_by : Option ℕ → Claimed
-  claimed_by o = claimed sh.rule sh.keys s.taken s.place file block o
+  claimed_by o = entering sh.rule sh.keys s.taken s.place file block o
 
   refused_claim : (o : Option ℕ) (f : StoreFault) (w : Claimed) → w ≡ claimed_by o → w.0 ≡ Err f
       → (takes sh s.place file block o ≡ Err f) × (w.1 ≡ s.taken) × (w.2 ≡ s.place)
@@ -115,11 +116,11 @@ module _ {sh : Shape} {s : State} (file block mark : ℕ) (bytes : List ℕ) {ma
     module _ {map' : Type 0} {keys' keys₁ size₁ : ℕ} {place' place₁ : Placement} {taken' : ℕ → Bool} {told : Result ℕ StoreFault}
         (ek : keys₁ ≡ sh.keys) (ek' : keys' ≡ keys₁) (ep : place₁ ≡ s.place) (here : None ≡ s.place file block) (kept : mark ≢ 0)
         (es : size₁ ≡ sh.size) (bounded : sh.size ≤ 4096)
-        (step : file < 65536 → block < 65536 → size₁ ≤ 4096 → place₁ file block ≡ None
-        → ◌≡◌ {A = Claimed} (told, taken', place') (claim_step sh.rule keys₁ size₁ s.taken place₁ file block)) (m : map') where
-      claims : ◌≡◌ {A = Claimed} (told, taken', place') (claimed sh.rule sh.keys s.taken s.place file block (free_for sh s file block))
-      claims = step (omega (arith, adm.few_files, bounds.1)) (omega (arith, adm.narrow, bounds.2)) (omega arith) (ap (λ (pl : Placement). pl file block) ep ∙ sym here)
-          ∙ (λ i. claim_step sh.rule (ek i) (es i) s.taken (ep i) file block)
+        (step : ◌≡◌ {A = Claimed} (told, taken', place') (claim_step sh.rule keys₁ size₁ s.taken place₁ file block)) (m : map') where
+      claims : ◌≡◌ {A = Claimed} (told, taken', place') (entering sh.rule sh.keys s.taken s.place file block (free_for sh s file block))
+      claims = step ∙ (λ i. claim_step sh.rule (ek i) (es i) s.taken (ep i) file block)
+          ∙ claims_within sh.rule sh.keys sh.size s.taken s.place file block
+          (omega (arith, adm.few_files, bounds.1)) (omega (arith, adm.narrow, bounds.2)) bounded (sym here)
 
       takes_free : write_answer sh s file block mark (length bytes) ≡ takes sh s.place file block (free_for sh s file block)
       takes_free = write_takes sh s file block mark (length bytes) ad (sym here) kept (free_for sh s file block) refl

@@ -12,7 +12,7 @@ pub returns-in_err-number : goal.returns-in_err-number
 returns-in_err-number g c = record {
   kept = λ v. c.enter.ensures.kept (c.goal_of-goal.ensures.map v).stays_valid;
   room = λ v. c.enter.ensures.room ∙ (c.goal_of-goal.ensures.map v).same_room;
-  step = λ v lf lb ls un.
+  step = λ v.
       let p = err_from_is_err_and c.from_residual.result c.from_residual.ensures.1 in
       ap (λ (r : Result ℕ StoreFault). let w : Claimed = (r, taken_in c.settle.new.self, g.M.Map.placed c.enter.new.map) in w)
       (p.1 ∙ ap Err p.2 ∙ sym (ap lifted c.in_err-number.was))
@@ -22,7 +22,7 @@ returns-in_err-number g c = record {
       (taken_in c.args.pool.now) (taken_in c.take.new.self) (taken_in c.settle.new.self)
       (g.M.Map.placed c.args.map.now) (g.M.Map.placed c.goal_of-goal.new.map) (g.M.Map.placed c.enter.new.map)
       (g.M.Map.room c.goal_of-goal.new.map) c.take.result c.in-Some.token c.enter.result c.settle.result
-      (c.goal_of-goal.ensures.map v).same_room (c.goal_of-goal.ensures.map v).same_place lf lb ls un (c.goal_of-goal.ensures.answer v)
+      (c.goal_of-goal.ensures.map v).same_room (c.goal_of-goal.ensures.map v).same_place (c.goal_of-goal.ensures.answer v)
       c.take.ensures.found c.in-Some.is c.take.ensures.after c.enter.ensures.token
       (c.enter.ensures.step (c.goal_of-goal.ensures.map v).stays_valid) c.settle.ensures.answer c.settle.ensures.after;
 }
@@ -31,7 +31,7 @@ pub returns : goal.returns
 returns g c = record {
   kept = λ v. c.enter.ensures.kept (c.goal_of-goal.ensures.map v).stays_valid;
   room = λ v. c.enter.ensures.room ∙ (c.goal_of-goal.ensures.map v).same_room;
-  step = λ v lf lb ls un.
+  step = λ v.
       ap (λ (r : Result ℕ StoreFault). let w : Claimed = (r, taken_in c.settle.new.self, g.M.Map.placed c.enter.new.map) in w)
       (sym (ap lifted c.in_ok-number.was))
       ∙ entered_claim g.M.Map.rule (g.M.Map.room c.args.map.now)
@@ -40,7 +40,7 @@ returns g c = record {
       (taken_in c.args.pool.now) (taken_in c.take.new.self) (taken_in c.settle.new.self)
       (g.M.Map.placed c.args.map.now) (g.M.Map.placed c.goal_of-goal.new.map) (g.M.Map.placed c.enter.new.map)
       (g.M.Map.room c.goal_of-goal.new.map) c.take.result c.in-Some.token c.enter.result c.settle.result
-      (c.goal_of-goal.ensures.map v).same_room (c.goal_of-goal.ensures.map v).same_place lf lb ls un (c.goal_of-goal.ensures.answer v)
+      (c.goal_of-goal.ensures.map v).same_room (c.goal_of-goal.ensures.map v).same_place (c.goal_of-goal.ensures.answer v)
       c.take.ensures.found c.in-Some.is c.take.ensures.after c.enter.ensures.token
       (c.enter.ensures.step (c.goal_of-goal.ensures.map v).stays_valid) c.settle.ensures.answer c.settle.ensures.after;
 }

@@ -5,20 +5,12 @@ use Rattle.std.proofs.lemmas.Bool.Decides.{nat_tests}
 use Rattle.std.proofs.lemmas.Bool.{cond-true, cond-false, lt-ltb, le-ltb, eq-eqb, ne_eqb, cases_eq, cases_lt}
 use Rattle.memory.specs.Memory.{block_at, overlaid}
 use Rattle.memory.proofs.Overlays.{length_overlaid, length_block, block_here, block_beside}
+use Rattle.boards.specs.Full.{fits_in, block_is}
 use Rattle.boards.specs.Boards.{board_answer, size_in, block_in, replaced}
 
 -- what a granted call brings
 pub granted : (size number buffer : ℕ) → Ok tt ≡ board_answer size number buffer → (number < size) × (buffer ≡ 4096)
 granted size number buffer e = (grind (arith, nat_tests), grind (arith, nat_tests))
-
-pub fits_in : (memory : List ℕ) (i : ℕ) → i < size_in memory → i * 4096 + 4096 ≤ length memory
-fits_in memory i l = omega arith
-
-pub block_is : (memory : List ℕ) (i : ℕ) → i < size_in memory → block_in memory i ≡ block_at memory i
-block_is memory i l = cond-true _ (block_at memory i) [] (lt-ltb i (size_in memory) l)
-
-pub full_in : (memory : List ℕ) (i : ℕ) → i < size_in memory → length (block_in memory i) ≡ 4096
-full_in memory i l = ap length (block_is memory i l) ∙ length_block memory i (fits_in memory i l)
 
 -- the board after a write, where the memory has other bytes in that block's part
 module _ (memory new : List ℕ) (i : ℕ) (l : i < size_in memory) (e : length new ≡ 4096) where

@@ -4,7 +4,7 @@ use Rattle.faults.specs.declared.Fault.{Fault}
 use Rattle.faults.specs.declared.Ground.TheVariants.{Buffer, BoardNumber}
 use Rattle.faults.specs.declared.Layer.TheVariants.{Board}
 use Rattle.faults.specs.Grounds.{first_ground}
-use Rattle.memory.specs.Answers.{answered}
+use Rattle.faults.specs.Answers.{answered}
 use Rattle.memory.specs.Memory.{block_at}
 
 -- The answer to a read or write of one block, on a board of so many blocks, with a buffer of so many bytes.
@@ -12,7 +12,7 @@ abbrev pub board_answer : ℕ → ℕ → ℕ → Result (Unit {0}) Fault
 board_answer size number buffer = answered Board 0 number (first_ground (
     (not (buffer == 4096), Buffer)
     ∷ (not (nat_lt number size), BoardNumber)
-    ∷ []))
+    ∷ [])) tt
 
 -- The same blocks, but that one has other bytes.
 abbrev pub replaced : (ℕ → List ℕ) → ℕ → List ℕ → ℕ → List ℕ
@@ -20,20 +20,18 @@ replaced block number new i = cond (i == number) new (block i)
 
 -- What a read answers and leaves, on a board of `size` blocks that hold `block`: the block's bytes in the buffer if granted, and nothing changed besides.
 pub record ReadsBlock (size : ℕ) (block : ℕ → List ℕ) (number : ℕ) (buffer : List ℕ)
-    (answer : Result (Unit {0}) Fault) (buffer_after : List ℕ) (size_after : ℕ) (block_after : ℕ → List ℕ) (valid_after : Type 0) : Type 0 where
+    (answer : Result (Unit {0}) Fault) (buffer_after : List ℕ) (size_after : ℕ) (block_after : ℕ → List ℕ) : Type 0 where
   pub answers : answer ≡ board_answer size number (length buffer)
   pub copies : buffer_after ≡ cond (is_ok answer) (block number) buffer
   pub keeps : block_after ≡ block
   pub same_size : size_after ≡ size
-  pub stays_valid : valid_after
 
 -- What a write answers and leaves: the one block replaced if granted, and nothing changed besides.
 pub record ReplacesBlock (size : ℕ) (block : ℕ → List ℕ) (number : ℕ) (buffer : List ℕ)
-    (answer : Result (Unit {0}) Fault) (size_after : ℕ) (block_after : ℕ → List ℕ) (valid_after : Type 0) : Type 0 where
+    (answer : Result (Unit {0}) Fault) (size_after : ℕ) (block_after : ℕ → List ℕ) : Type 0 where
   pub answers : answer ≡ board_answer size number (length buffer)
   pub replaces : block_after ≡ cond (is_ok answer) (replaced block number buffer) block
   pub same_size : size_after ≡ size
-  pub stays_valid : valid_after
 
 -- ---- a board in memory
 

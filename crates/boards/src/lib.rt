@@ -5,35 +5,38 @@
 ghost use Rattle.std.specs.Prelude.{◌≡◌, ℕ, ◌*◌, ◌<◌, ◌≤◌, List, length, is_ok, if◌then◌else◌};
 ghost use Rattle.memory.specs.Memory.{overlaid};
 ghost use Rattle.boards.specs.Boards.{board_answer, ReadsBlock, ReplacesBlock, size_in, block_in, joined_size, joined_block, LeavesParts, left_written, right_written};
+ghost use Rattle.std.proofs.Common.{rules};
+ghost use Rattle.boards.specs.Full.{full_in, joined_full};
 
 use blocks::{BLOCK_BYTES, BOARD_BLOCKS};
 use faults::{Fault, Ground, Layer};
 
 /// A row of at most 4,096 blocks of 4,096 bytes.
 ///
-/// Its meaning is its size and what each block holds. The contracts are promised of a board that is valid,
-/// as each is that was made by its maker over valid parts, and leave it valid.
+/// Its meaning is its size and what each block holds.
 /// A question may leave notes in the board, so it takes `&mut self`; it leaves the meaning.
 pub trait Board {
-    ghost valid: { Self → Type 0 };
-
     ghost size: { Self → ℕ };
 
     ghost block: { Self → ℕ → List ℕ };
 
-    /// How many blocks there are: at most 4,096, and each of 4,096 bytes.
+    /// How many blocks there are.
     fn blocks(&self) -> u32
-        ensures answer { valid self.now → result ≡ size self.now }
-        ensures bounded { valid self.now → size self.now ≤ 4096 }
-        ensures full { (i : ℕ) → valid self.now → i < size self.now → length (block self.now i) ≡ 4096 };
+        ensures { result ≡ size self.now };
 
     /// Copies a block out.
     fn read(&mut self, number: u32, to: &mut [u8]) -> Result<(), Fault>
-        ensures { valid self.old → ReadsBlock (size self.old) (block self.old) number to.old result to.new (size self.new) (block self.new) (valid self.new) };
+        ensures { ReadsBlock (size self.old) (block self.old) number to.old result to.new (size self.new) (block self.new) };
 
     /// Replaces a block, and no other.
     fn write(&mut self, number: u32, from: &[u8]) -> Result<(), Fault>
-        ensures { valid self.old → ReplacesBlock (size self.old) (block self.old) number from.now result (size self.new) (block self.new) (valid self.new) };
+        ensures { ReplacesBlock (size self.old) (block self.old) number from.now result (size self.new) (block self.new) };
+
+    /// There are at most 4,096 blocks,
+    ghost bounded: { (s : Self) → size s ≤ 4096 };
+
+    /// and each of 4,096 bytes.
+    ghost full: { (s : Self) (i : ℕ) → i < size s → length (block s i) ≡ 4096 };
 }
 
 /// Whether a board of so many blocks grants a read or write of one, with a buffer of so many bytes.
@@ -41,18 +44,13 @@ pub fn admit(blocks: u32, number: u32, buffer: usize) -> Result<(), Fault>
     ensures { result ≡ board_answer blocks number buffer }
 {
     let ground = if buffer != BLOCK_BYTES {
-        Ground::Buffer
+        Some(Ground::Buffer)
     } else if number >= blocks {
-        Ground::BoardNumber
+        Some(Ground::BoardNumber)
     } else {
-        return Ok(());
+        None
     };
-    Err(Fault {
-        ground,
-        layer: Layer::Board,
-        file: 0,
-        block: number,
-    })
+    Layer::Board.grant_unless(ground, 0, number)
 }
 
 /// A board in memory handed over: block i is the part that starts at i × 4,096.
@@ -82,25 +80,27 @@ impl<'a> MemoryBoard<'a> {
 }
 
 impl<'a> Board for MemoryBoard<'a> {
-    ghost valid = { λ s. Unit {0} };
-
     ghost size = { λ s. size_in s.bytes.now };
 
     ghost block = { λ s. block_in s.bytes.now };
+
+    ghost bounded = { Prim.search rules };
+
+    ghost full = { λ s. full_in s.bytes.now };
 
     fn blocks(&self) -> u32 {
         (self.bytes.len() / BLOCK_BYTES).min(BOARD_BLOCKS as usize) as u32
     }
 
     fn read(&mut self, number: u32, to: &mut [u8]) -> Result<(), Fault>
-        ensures meaning { Unit {0} → ReadsBlock (size_in self.old.bytes.now) (block_in self.old.bytes.now) number to.old result to.new (size_in self.new.bytes.now) (block_in self.new.bytes.now) (Unit {0}) }
+        ensures meaning { ReadsBlock (size_in self.old.bytes.now) (block_in self.old.bytes.now) number to.old result to.new (size_in self.new.bytes.now) (block_in self.new.bytes.now) }
         ensures memory { self.new.bytes ≡ self.old.bytes }
     {
         self.copy_out(number, to)
     }
 
     fn write(&mut self, number: u32, from: &[u8]) -> Result<(), Fault>
-        ensures meaning { Unit {0} → ReplacesBlock (size_in self.old.bytes.now) (block_in self.old.bytes.now) number from.now result (size_in self.new.bytes.now) (block_in self.new.bytes.now) (Unit {0}) }
+        ensures meaning { ReplacesBlock (size_in self.old.bytes.now) (block_in self.old.bytes.now) number from.now result (size_in self.new.bytes.now) (block_in self.new.bytes.now) }
         ensures memory { self.new.bytes.now ≡ (if is_ok result then overlaid self.old.bytes.now (number * 4096) from.now else self.old.bytes.now) }
         ensures lender { self.new.bytes.ghost_name ≡ self.old.bytes.ghost_name }
     {
@@ -135,11 +135,13 @@ impl<L: Board, R: Board> JoinedBoard<L, R> {
 }
 
 impl<L: Board, R: Board> Board for JoinedBoard<L, R> {
-    ghost valid = { λ s. L.Board.valid s.left × R.Board.valid s.right };
-
     ghost size = { λ s. joined_size (L.Board.size s.left) (R.Board.size s.right) };
 
     ghost block = { λ s. joined_block (L.Board.size s.left) (L.Board.block s.left) (R.Board.size s.right) (R.Board.block s.right) };
+
+    ghost bounded = { Prim.search rules };
+
+    ghost full = { λ s i l. joined_full (L.Board.size s.left) (L.Board.block s.left) (L.Board.full s.left) (R.Board.size s.right) (R.Board.block s.right) (R.Board.full s.right) i l };
 
     fn blocks(&self) -> u32 {
         self.left
@@ -149,8 +151,8 @@ impl<L: Board, R: Board> Board for JoinedBoard<L, R> {
     }
 
     fn read(&mut self, number: u32, to: &mut [u8]) -> Result<(), Fault>
-        ensures meaning { L.Board.valid self.old.left × R.Board.valid self.old.right → ReadsBlock (joined_size (L.Board.size self.old.left) (R.Board.size self.old.right)) (joined_block (L.Board.size self.old.left) (L.Board.block self.old.left) (R.Board.size self.old.right) (R.Board.block self.old.right)) number to.old result to.new (joined_size (L.Board.size self.new.left) (R.Board.size self.new.right)) (joined_block (L.Board.size self.new.left) (L.Board.block self.new.left) (R.Board.size self.new.right) (R.Board.block self.new.right)) (L.Board.valid self.new.left × R.Board.valid self.new.right) }
-        ensures parts { L.Board.valid self.old.left × R.Board.valid self.old.right → LeavesParts (L.Board.size self.old.left) (L.Board.block self.old.left) (R.Board.size self.old.right) (R.Board.block self.old.right) (L.Board.size self.new.left) (L.Board.block self.new.left) (R.Board.size self.new.right) (R.Board.block self.new.right) }
+        ensures meaning { ReadsBlock (joined_size (L.Board.size self.old.left) (R.Board.size self.old.right)) (joined_block (L.Board.size self.old.left) (L.Board.block self.old.left) (R.Board.size self.old.right) (R.Board.block self.old.right)) number to.old result to.new (joined_size (L.Board.size self.new.left) (R.Board.size self.new.right)) (joined_block (L.Board.size self.new.left) (L.Board.block self.new.left) (R.Board.size self.new.right) (R.Board.block self.new.right)) }
+        ensures parts { LeavesParts (L.Board.size self.old.left) (L.Board.block self.old.left) (R.Board.size self.old.right) (R.Board.block self.old.right) (L.Board.size self.new.left) (L.Board.block self.new.left) (R.Board.size self.new.right) (R.Board.block self.new.right) }
     {
         admit(self.blocks(), number, to.len())?;
         let left = self.left.blocks();
@@ -162,8 +164,8 @@ impl<L: Board, R: Board> Board for JoinedBoard<L, R> {
     }
 
     fn write(&mut self, number: u32, from: &[u8]) -> Result<(), Fault>
-        ensures meaning { L.Board.valid self.old.left × R.Board.valid self.old.right → ReplacesBlock (joined_size (L.Board.size self.old.left) (R.Board.size self.old.right)) (joined_block (L.Board.size self.old.left) (L.Board.block self.old.left) (R.Board.size self.old.right) (R.Board.block self.old.right)) number from.now result (joined_size (L.Board.size self.new.left) (R.Board.size self.new.right)) (joined_block (L.Board.size self.new.left) (L.Board.block self.new.left) (R.Board.size self.new.right) (R.Board.block self.new.right)) (L.Board.valid self.new.left × R.Board.valid self.new.right) }
-        ensures parts { L.Board.valid self.old.left × R.Board.valid self.old.right → LeavesParts (L.Board.size self.old.left) (left_written (is_ok result) (L.Board.size self.old.left) (L.Board.block self.old.left) number from.now) (R.Board.size self.old.right) (right_written (is_ok result) (L.Board.size self.old.left) (R.Board.block self.old.right) number from.now) (L.Board.size self.new.left) (L.Board.block self.new.left) (R.Board.size self.new.right) (R.Board.block self.new.right) }
+        ensures meaning { ReplacesBlock (joined_size (L.Board.size self.old.left) (R.Board.size self.old.right)) (joined_block (L.Board.size self.old.left) (L.Board.block self.old.left) (R.Board.size self.old.right) (R.Board.block self.old.right)) number from.now result (joined_size (L.Board.size self.new.left) (R.Board.size self.new.right)) (joined_block (L.Board.size self.new.left) (L.Board.block self.new.left) (R.Board.size self.new.right) (R.Board.block self.new.right)) }
+        ensures parts { LeavesParts (L.Board.size self.old.left) (left_written (is_ok result) (L.Board.size self.old.left) (L.Board.block self.old.left) number from.now) (R.Board.size self.old.right) (right_written (is_ok result) (L.Board.size self.old.left) (R.Board.block self.old.right) number from.now) (L.Board.size self.new.left) (L.Board.block self.new.left) (R.Board.size self.new.right) (R.Board.block self.new.right) }
     {
         admit(self.blocks(), number, from.len())?;
         let left = self.left.blocks();

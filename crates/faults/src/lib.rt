@@ -4,33 +4,34 @@
 
 ghost use Rattle.std.specs.Prelude.{◌≡◌};
 ghost use Rattle.faults.specs.Grounds.{ground_number, layer_name};
+ghost use Rattle.faults.specs.Answers.{refused_by, answered, ground_of_numbers};
 
-/// A ground of refusal.
+/// A ground of refusal, by the number under which it is known.
 /// The first seven come from what a call brings, the others from the state that it meets.
 #[derive(Clone, Copy, PartialEq, Eq, Debug)]
 pub enum Ground {
     /// a mark that is none
-    Mark,
+    Mark = 1,
     /// a file past the last
-    File,
+    File = 2,
     /// a block past the last, or an extent that ends past it
-    Block,
+    Block = 3,
     /// an extent of no block, or of too many
-    Length,
+    Length = 4,
     /// a buffer of another length than asked, or too short
-    Buffer,
+    Buffer = 5,
     /// a board number past the last, or an extent that ends past it
-    BoardNumber,
+    BoardNumber = 6,
     /// a line outside the forms
-    Line,
+    Line = 7,
     /// a block that is mapped already
-    Mapped,
+    Mapped = 11,
     /// no board block is free
-    NoFreeBlock,
+    NoFreeBlock = 12,
     /// the map would call for more keys than there are places
-    TooManyKeys,
+    TooManyKeys = 13,
     /// a new key, and no place for it
-    TableFull,
+    TableFull = 14,
 }
 
 impl Ground {
@@ -38,19 +39,7 @@ impl Ground {
     pub fn number(self) -> u32
         ensures { result ≡ ground_number self }
     {
-        match self {
-            Ground::Mark => 1,
-            Ground::File => 2,
-            Ground::Block => 3,
-            Ground::Length => 4,
-            Ground::Buffer => 5,
-            Ground::BoardNumber => 6,
-            Ground::Line => 7,
-            Ground::Mapped => 11,
-            Ground::NoFreeBlock => 12,
-            Ground::TooManyKeys => 13,
-            Ground::TableFull => 14,
-        }
+        self as u32
     }
 }
 
@@ -77,6 +66,38 @@ impl Layer {
             Layer::Lower => "lower",
             Layer::Console => "console",
         }
+    }
+
+    /// This layer's refusal of a call with this file and first block.
+    pub fn refusal(self, ground: Ground, file: u32, block: u32) -> Fault
+        ensures { result ≡ refused_by self ground file block }
+    {
+        Fault {
+            ground,
+            file,
+            block,
+            layer: self,
+        }
+    }
+
+    /// This layer's answer to a call with this file and first block: granted, unless there is a ground to refuse it.
+    pub fn grant_unless(self, ground: Option<Ground>, file: u32, block: u32) -> Result<(), Fault>
+        ensures { result ≡ answered self file block ground tt }
+    {
+        match ground {
+            None => Ok(()),
+            Some(ground) => Err(self.refusal(ground, file, block)),
+        }
+    }
+
+    /// A file and a block number in 16 bits, or this layer's refusal of those above 65,535.
+    pub fn narrow(self, file: u32, block: u32) -> Result<(u16, u16), Fault>
+        ensures { result ≡ answered self file block (ground_of_numbers file block) (file, block) }
+    {
+        let refused = |ground: Ground| self.refusal(ground, file, block);
+        let narrow_file = u16::try_from(file).map_err(|_| refused(Ground::File))?;
+        let narrow_block = u16::try_from(block).map_err(|_| refused(Ground::Block))?;
+        Ok((narrow_file, narrow_block))
     }
 }
 

@@ -4,7 +4,7 @@
 
 ghost use Rattle.std.specs.Prelude.{◌≡◌, ℕ, ◌<◌, ◌≤◌, min, length};
 ghost use Rattle.blocks.specs.Blocks.{Contents, only, inside, zero_block};
-ghost use Rattle.lowers.specs.Lowers.{ground_of_block, ground_of_extent, lower_answer, block_answer, extent_answer, Holds, CopiesOut, Changes};
+ghost use Rattle.lowers.specs.Lowers.{ground_of_block, ground_of_extent, block_answer, extent_answer, Holds, CopiesOut, Changes};
 
 use blocks::{BLOCK_BYTES, EXTENT_BLOCKS};
 use faults::{Fault, Ground, Layer};
@@ -12,42 +12,45 @@ use faults::{Fault, Ground, Layer};
 /// The bytes of so many files of so many blocks, to be read.
 ///
 /// Its meaning is how many files there are, how many blocks each has, and what each block of each file holds.
-/// The contracts are promised of a side that is valid, as each is that was made by its maker over valid parts, and leave it valid.
 /// A question may leave notes in the side, so it takes `&mut self`; it leaves the meaning.
 pub trait Reading {
-    ghost valid: { Self → Type 0 };
-
     ghost files: { Self → ℕ };
 
     ghost width: { Self → ℕ };
 
     ghost bytes: { Self → Contents };
 
-    /// How many files there are: at most 65,536.
+    /// How many files there are.
     fn files(&self) -> u32
-        ensures answer { valid self.now → result ≡ files self.now }
-        ensures bounded { valid self.now → files self.now ≤ 65536 };
+        ensures { result ≡ files self.now };
 
-    /// How many blocks each file has: at most 65,536, and each of 4,096 bytes.
+    /// How many blocks each file has.
     fn width(&self) -> u32
-        ensures answer { valid self.now → result ≡ width self.now }
-        ensures bounded { valid self.now → width self.now ≤ 65536 }
-        ensures full { (f b : ℕ) → valid self.now → f < files self.now → b < width self.now → length (bytes self.now f b) ≡ 4096 };
+        ensures { result ≡ width self.now };
 
     /// Copies a block out.
     fn read(&mut self, file: u32, block: u32, to: &mut [u8]) -> Result<(), Fault>
-        ensures { valid self.old → CopiesOut (files self.old) (width self.old) (bytes self.old) file block to.old result to.new (files self.new) (width self.new) (bytes self.new) (valid self.new) };
+        ensures { CopiesOut (files self.old) (width self.old) (bytes self.old) file block to.old result to.new (files self.new) (width self.new) (bytes self.new) };
+
+    /// There are at most 65,536 files,
+    ghost few: { (s : Self) → files s ≤ 65536 };
+
+    /// of at most 65,536 blocks,
+    ghost narrow: { (s : Self) → width s ≤ 65536 };
+
+    /// and each block has 4,096 bytes.
+    ghost full: { (s : Self) (f b : ℕ) → f < files s → b < width s → length (bytes s f b) ≡ 4096 };
 }
 
 /// A reading side whose blocks can be replaced and cleared.
 pub trait Lower: Reading {
     /// Replaces a block, and no other.
     fn write(&mut self, file: u32, block: u32, from: &[u8]) -> Result<(), Fault>
-        ensures { Self.Reading.valid self.old → Changes (Self.Reading.files self.old) (Self.Reading.width self.old) (Self.Reading.bytes self.old) file (only block) (λ _. from.now) (block_answer (Self.Reading.files self.old) (Self.Reading.width self.old) file block (length from.now)) result (Self.Reading.files self.new) (Self.Reading.width self.new) (Self.Reading.bytes self.new) (Self.Reading.valid self.new) };
+        ensures { Changes (Self.Reading.files self.old) (Self.Reading.width self.old) (Self.Reading.bytes self.old) file (only block) (λ _. from.now) (block_answer (Self.Reading.files self.old) (Self.Reading.width self.old) file block (length from.now)) result (Self.Reading.files self.new) (Self.Reading.width self.new) (Self.Reading.bytes self.new) };
 
     /// Makes the n blocks from the first on zero bytes, and no other.
     fn clear(&mut self, file: u32, first: u32, n: u32) -> Result<(), Fault>
-        ensures { Self.Reading.valid self.old → Changes (Self.Reading.files self.old) (Self.Reading.width self.old) (Self.Reading.bytes self.old) file (inside first n) (λ _. zero_block) (extent_answer (Self.Reading.files self.old) (Self.Reading.width self.old) file first n) result (Self.Reading.files self.new) (Self.Reading.width self.new) (Self.Reading.bytes self.new) (Self.Reading.valid self.new) };
+        ensures { Changes (Self.Reading.files self.old) (Self.Reading.width self.old) (Self.Reading.bytes self.old) file (inside first n) (λ _. zero_block) (extent_answer (Self.Reading.files self.old) (Self.Reading.width self.old) file first n) result (Self.Reading.files self.new) (Self.Reading.width self.new) (Self.Reading.bytes self.new) };
 }
 
 /// Why a read or write of one block is refused, if it is, where there are so many files of so many blocks, with a buffer of so many bytes.
@@ -80,21 +83,6 @@ pub fn extent_ground(files: u32, width: u32, file: u32, first: u32, n: u32) -> O
     }
 }
 
-/// Whether a call of a lower store is granted, by the ground that refuses it.
-fn granted_unless(ground: Option<Ground>, file: u32, block: u32) -> Result<(), Fault>
-    ensures { result ≡ lower_answer file block ground }
-{
-    match ground {
-        None => Ok(()),
-        Some(ground) => Err(Fault {
-            ground,
-            layer: Layer::Lower,
-            file,
-            block,
-        }),
-    }
-}
-
 /// Whether a read or write of one block is granted.
 pub fn admit_block(
     files: u32,
@@ -105,14 +93,14 @@ pub fn admit_block(
 ) -> Result<(), Fault>
     ensures { result ≡ block_answer files width file block buffer }
 {
-    granted_unless(block_ground(files, width, file, block, buffer), file, block)
+    Layer::Lower.grant_unless(block_ground(files, width, file, block, buffer), file, block)
 }
 
 /// Whether a clear of the n blocks from the first on is granted.
 pub fn admit_extent(files: u32, width: u32, file: u32, first: u32, n: u32) -> Result<(), Fault>
     ensures { result ≡ extent_answer files width file first n }
 {
-    granted_unless(extent_ground(files, width, file, first, n), file, first)
+    Layer::Lower.grant_unless(extent_ground(files, width, file, first, n), file, first)
 }
 
 /// Copies a block from a reading side to a lower store; the file and the block have to be within both.
@@ -122,8 +110,8 @@ pub fn carry<S: Reading, T: Lower>(
     file: u32,
     block: u32,
 ) -> Result<(), Fault>
-    ensures target { S.Reading.valid source.old → T.Reading.valid target.old → Changes (T.Reading.files target.old) (T.Reading.width target.old) (T.Reading.bytes target.old) file (only block) (λ _. S.Reading.bytes source.old file block) (block_answer (min (S.Reading.files source.old) (T.Reading.files target.old)) (min (S.Reading.width source.old) (T.Reading.width target.old)) file block 4096) result (T.Reading.files target.new) (T.Reading.width target.new) (T.Reading.bytes target.new) (T.Reading.valid target.new) }
-    ensures source { S.Reading.valid source.old → T.Reading.valid target.old → Holds (S.Reading.files source.old) (S.Reading.width source.old) (S.Reading.bytes source.old) (S.Reading.files source.new) (S.Reading.width source.new) (S.Reading.bytes source.new) (S.Reading.valid source.new) }
+    ensures target { Changes (T.Reading.files target.old) (T.Reading.width target.old) (T.Reading.bytes target.old) file (only block) (λ _. S.Reading.bytes source.old file block) (block_answer (min (S.Reading.files source.old) (T.Reading.files target.old)) (min (S.Reading.width source.old) (T.Reading.width target.old)) file block 4096) result (T.Reading.files target.new) (T.Reading.width target.new) (T.Reading.bytes target.new) }
+    ensures source { Holds (S.Reading.files source.old) (S.Reading.width source.old) (S.Reading.bytes source.old) (S.Reading.files source.new) (S.Reading.width source.new) (S.Reading.bytes source.new) }
 {
     let files = source.files().min(target.files());
     let width = source.width().min(target.width());

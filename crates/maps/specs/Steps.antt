@@ -5,22 +5,22 @@ use Rattle.faults.specs.declared.Ground.{Ground}
 use Rattle.faults.specs.declared.Ground.TheVariants.{File, Block, Length, BoardNumber, Mapped, TooManyKeys}
 use Rattle.faults.specs.declared.Layer.TheVariants.{Map}
 use Rattle.faults.specs.Grounds.{first_ground}
+use Rattle.faults.specs.Answers.{refused_by, answered, ground_of_numbers}
 use Rattle.blocks.specs.Blocks.{Placement, inside, every, changed}
 
 -- ---- refusals
 
 -- a map's refusal, naming a file and a block
 abbrev pub fault_of : (ground : Ground) → ℕ → ℕ → Fault
-fault_of g file block = record { ground = g; layer = Map; file = file; block = block }
+fault_of g file block = refused_by Map g file block
 
 -- What a call that names a file and a block first answers: the fault, if there is a ground to refuse it, else x.
-abbrev pub answer : {X : Type 0} → ℕ → ℕ → Option Ground → X → Result X Fault
-answer file block None x = Ok x
-answer file block (Some g) x = Err (fault_of g file block)
+abbrev pub answer : {X : Type 0} → ℕ → ℕ → (ground : Option Ground) → X → Result X Fault
+answer file block g x = answered Map file block g x
 
 -- why a question about a block is refused
 abbrev pub ground_of_block : ℕ → ℕ → Option Ground
-ground_of_block file block = first_ground ((nat_lt 65535 file, File) ∷ (nat_lt 65535 block, Block) ∷ [])
+ground_of_block file block = ground_of_numbers file block
 
 -- why a change of an extent is refused, whatever the map holds
 abbrev pub ground_of_extent : ℕ → ℕ → ℕ → Option Ground

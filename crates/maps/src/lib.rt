@@ -2,6 +2,9 @@
 
 #![tactic(auto)]
 
+pub mod extent;
+mod named;
+
 ghost use Rattle.std.specs.Prelude.{◌≡◌, ℕ, ◌<◌, ◌≤◌, ◌⊎◌, Some, None, Option};
 ghost use Rattle.blocks.specs.Blocks.{Placement, tally};
 ghost use Rattle.maps.specs.Steps.{nowhere, forgotten, Outcome, find_answer, next_answer, assign_step, clear_step, forget_step};
@@ -12,9 +15,6 @@ use faults::Fault;
 ///
 /// A refused call changes nothing. A question may change what is remembered and never what is meant.
 pub trait Map {
-    /// Holds of a map that was made by its maker and changed by its own calls alone.
-    ghost valid: { Self → Type 0 };
-
     /// Where each block lies.
     ghost placed: { Self → Placement };
 
@@ -26,41 +26,35 @@ pub trait Map {
 
     /// The board number of a block, or none.
     fn find(&mut self, file: u32, block: u32) -> Result<Option<u32>, Fault>
-        ensures kept { valid self.old → valid self.new }
         ensures room { room self.new ≡ room self.old }
-        ensures answer { valid self.old → result ≡ find_answer (placed self.old) file block }
-        ensures same { valid self.old → placed self.new ≡ placed self.old };
+        ensures answer { result ≡ find_answer (placed self.old) file block }
+        ensures same { placed self.new ≡ placed self.old };
 
     /// The lowest mapped block of a file from a block on, or none.
     fn next(&mut self, file: u32, block: u32) -> Result<Option<u32>, Fault>
-        ensures kept { valid self.old → valid self.new }
         ensures room { room self.new ≡ room self.old }
-        ensures answer { valid self.old → result ≡ next_answer (placed self.old) file block }
-        ensures same { valid self.old → placed self.new ≡ placed self.old };
+        ensures answer { result ≡ next_answer (placed self.old) file block }
+        ensures same { placed self.new ≡ placed self.old };
 
     /// Maps the n blocks of a file from `first` on to the board numbers from `board` on.
     fn assign(&mut self, file: u32, first: u32, n: u32, board: u32) -> Result<(), Fault>
-        ensures kept { valid self.old → valid self.new }
         ensures room { room self.new ≡ room self.old }
-        ensures step { valid self.old → ◌≡◌ {A = Outcome} (result, placed self.new) (assign_step rule (room self.old) (placed self.old) file first n board) };
+        ensures step { ◌≡◌ {A = Outcome} (result, placed self.new) (assign_step rule (room self.old) (placed self.old) file first n board) };
 
     /// Takes the n blocks of a file from `first` on out.
     fn clear(&mut self, file: u32, first: u32, n: u32) -> Result<(), Fault>
-        ensures kept { valid self.old → valid self.new }
         ensures room { room self.new ≡ room self.old }
-        ensures step { valid self.old → ◌≡◌ {A = Outcome} (result, placed self.new) (clear_step rule (room self.old) (placed self.old) file first n) };
+        ensures step { ◌≡◌ {A = Outcome} (result, placed self.new) (clear_step rule (room self.old) (placed self.old) file first n) };
 
     /// Takes a whole file out.
     fn forget(&mut self, file: u32) -> Result<(), Fault>
-        ensures kept { valid self.old → valid self.new }
         ensures room { room self.new ≡ room self.old }
-        ensures step { valid self.old → ◌≡◌ {A = Outcome} (result, placed self.new) (forget_step (placed self.old) file) };
+        ensures step { ◌≡◌ {A = Outcome} (result, placed self.new) (forget_step (placed self.old) file) };
 
     /// Takes every file out.
     fn forget_all(&mut self)
-        ensures kept { valid self.old → valid self.new }
         ensures room { room self.new ≡ room self.old }
-        ensures after { valid self.old → placed self.new ≡ nowhere }
+        ensures after { placed self.new ≡ nowhere }
     {
         for file in 0..65536 {
             let _ = self.forget(file);
@@ -74,10 +68,10 @@ pub trait Map {
     ghost lighter: { (p : Placement) (file : ℕ) → rule (forgotten p file) ≤ rule p };
 
     /// What is placed is within the numbers that files, blocks and boards have,
-    ghost within: { (s : Self) → valid s → (f b : ℕ) → (65536 ≤ f) ⊎ (65536 ≤ b) → placed s f b ≡ None };
+    ghost within: { (s : Self) → (f b : ℕ) → (65536 ≤ f) ⊎ (65536 ≤ b) → placed s f b ≡ None };
 
-    ghost on_board: { (s : Self) → valid s → (f b p : ℕ) → placed s f b ≡ Some p → p < 4096 };
+    ghost on_board: { (s : Self) → (f b p : ℕ) → placed s f b ≡ Some p → p < 4096 };
 
     /// and never calls for more keys than there is room for.
-    ghost roomy: { (s : Self) → valid s → rule (placed s) ≤ room s };
+    ghost roomy: { (s : Self) → rule (placed s) ≤ room s };
 }

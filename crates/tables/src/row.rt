@@ -1,10 +1,10 @@
 //! What a table keeps, and which keys it takes.
 
 ghost use Rattle.std.specs.Prelude.{◌≡◌};
-ghost use Rattle.tables.specs.Calls.{answer, fault_of, ground_of_key};
+ghost use Rattle.tables.specs.Calls.{answer, ground_of_key};
 
 use blocks::Entry;
-use faults::{Fault, Ground, Layer};
+use faults::{Fault, Layer};
 
 /// A key with its entry.
 #[derive(Clone, Copy, PartialEq, Eq, Debug)]
@@ -26,27 +26,7 @@ impl Key {
     pub fn of(file: u32, block: u32) -> Result<Key, Fault>
         ensures { result ≡ answer file block (ground_of_key file block) (record { file = file; block = block }) }
     {
-        if file > 65535 {
-            return Err(refusal(Ground::File, file, block));
-        }
-        if block > 65535 {
-            return Err(refusal(Ground::Block, file, block));
-        }
-        Ok(Key {
-            file: file as u16,
-            block: block as u16,
-        })
-    }
-}
-
-/// A table's refusal of a call with this file and block.
-pub fn refusal(ground: Ground, file: u32, block: u32) -> Fault
-    ensures { result ≡ fault_of ground file block }
-{
-    Fault {
-        ground,
-        layer: Layer::Table,
-        file,
-        block,
+        let (file, block) = Layer::Table.narrow(file, block)?;
+        Ok(Key { file, block })
     }
 }

@@ -33,11 +33,9 @@ impl Spread for Mixing {
     ghost nowhere = { Prim.search rules };
 
     fn place_of(&self, file: u16, block: u16, n: u32) -> u32 {
-        if n == 0 {
-            return 0;
-        }
-        let key = file as u32 * 65536 + block as u32;
-        key.wrapping_mul(2654435761) / 65536 % n
+        let key = u32::from(file) * 65536 + u32::from(block);
+        let mixed = key.wrapping_mul(2654435761) / 65536;
+        mixed.checked_rem(n).unwrap_or(0)
     }
 }
 
@@ -49,10 +47,8 @@ impl Spread for Level {
     ghost nowhere = { Prim.search rules };
 
     fn place_of(&self, file: u16, block: u16, n: u32) -> u32 {
-        if n == 0 {
-            return 0;
-        }
-        (file as u32 + block as u32) % n
+        let sum = u32::from(file) + u32::from(block);
+        sum.checked_rem(n).unwrap_or(0)
     }
 }
 

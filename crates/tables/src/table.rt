@@ -7,7 +7,7 @@ ghost use Rattle.tables.specs.Holding.{Holding, Numbered, nothing, full, lowest_
 
 use crate::row::*;
 use blocks::Entry;
-use faults::{Fault, Ground};
+use faults::{Fault, Ground, Layer};
 
 /// Holds entries under keys, a key being a file and a block.
 ///
@@ -15,9 +15,6 @@ use faults::{Fault, Ground};
 /// For code that has checked its numbers there are the same calls over 16 bits, which refuse nothing:
 /// `find`, `store`, `remove` and `first_from`.
 pub trait Table {
-    /// What the rows keep true of one another.
-    ghost valid: { Self → Type 0 };
-
     /// The entry under each key.
     ghost holding: { Self → Holding };
 
@@ -30,35 +27,32 @@ pub trait Table {
 
     /// How many keys are held.
     fn held(&self) -> u32
-        ensures { valid self.now → result ≡ tally (holding self.now) };
+        ensures { result ≡ tally (holding self.now) };
 
     /// Drops all keys.
     fn empty(&mut self)
-        ensures kept { valid self.old → valid self.new }
         ensures room { places self.new ≡ places self.old }
-        ensures after { valid self.old → holding self.new ≡ nothing };
+        ensures after { holding self.new ≡ nothing };
 
     /// The entry under a key.
     fn find(&self, file: u16, block: u16) -> Option<Entry>
-        ensures { valid self.now → result ≡ holding self.now file block };
+        ensures { result ≡ holding self.now file block };
 
     /// Adds or replaces the entry under a key, and tells whether there was room.
     fn store(&mut self, file: u16, block: u16, entry: Entry) -> bool
-        ensures kept { valid self.old → valid self.new }
         ensures room { places self.new ≡ places self.old }
-        ensures answer { valid self.old → result ≡ not (full (holding self.old) (places self.old) file block) }
-        ensures after { valid self.old → holding self.new ≡ (if result then changed (holding self.old) file (only block) (λ _. Some entry) else holding self.old) };
+        ensures answer { result ≡ not (full (holding self.old) (places self.old) file block) }
+        ensures after { holding self.new ≡ (if result then changed (holding self.old) file (only block) (λ _. Some entry) else holding self.old) };
 
     /// Drops a key, and tells whether it was there.
     fn remove(&mut self, file: u16, block: u16) -> bool
-        ensures kept { valid self.old → valid self.new }
         ensures room { places self.new ≡ places self.old }
-        ensures answer { valid self.old → result ≡ is_some (holding self.old file block) }
-        ensures after { valid self.old → holding self.new ≡ changed (holding self.old) file (only block) (λ _. None) };
+        ensures answer { result ≡ is_some (holding self.old file block) }
+        ensures after { holding self.new ≡ changed (holding self.old) file (only block) (λ _. None) };
 
     /// The lowest key of a file from a block on, with its entry.
     fn first_from(&self, file: u16, block: u16) -> Option<Row>
-        ensures { valid self.now → result ≡ lowest_row (holding self.now) file block }
+        ensures { result ≡ lowest_row (holding self.now) file block }
     {
         for b in block..=65535 {
             if let Some(entry) = self.find(file, b) {
@@ -74,7 +68,7 @@ pub trait Table {
 
     /// The entry under a key.
     fn get(&self, file: u32, block: u32) -> Result<Option<Entry>, Fault>
-        ensures { valid self.now → result ≡ answer file block (ground_of_key file block) (holding self.now file block) }
+        ensures { result ≡ answer file block (ground_of_key file block) (holding self.now file block) }
     {
         let key = Key::of(file, block)?;
         Ok(self.find(key.file, key.block))
@@ -82,25 +76,23 @@ pub trait Table {
 
     /// Adds or replaces the entry under a key; refused if the key is new and the table full.
     fn put(&mut self, file: u32, block: u32, entry: Entry) -> Result<(), Fault>
-        ensures kept { valid self.old → valid self.new }
         ensures room { places self.new ≡ places self.old }
-        ensures answer { valid self.old → result ≡ answer file block (ground_of_put file block (full (holding self.old) (places self.old) file block)) tt }
-        ensures after { valid self.old → holding self.new ≡ leaves (ground_of_put file block (full (holding self.old) (places self.old) file block)) (holding self.old) (changed (holding self.old) file (only block) (λ _. Some entry)) }
+        ensures answer { result ≡ answer file block (ground_of_put file block (full (holding self.old) (places self.old) file block)) tt }
+        ensures after { holding self.new ≡ leaves (ground_of_put file block (full (holding self.old) (places self.old) file block)) (holding self.old) (changed (holding self.old) file (only block) (λ _. Some entry)) }
     {
         let key = Key::of(file, block)?;
         if self.store(key.file, key.block, entry) {
             Ok(())
         } else {
-            Err(refusal(Ground::TableFull, file, block))
+            Err(Layer::Table.refusal(Ground::TableFull, file, block))
         }
     }
 
     /// Drops a key, and tells whether it was there.
     fn drop(&mut self, file: u32, block: u32) -> Result<bool, Fault>
-        ensures kept { valid self.old → valid self.new }
         ensures room { places self.new ≡ places self.old }
-        ensures answer { valid self.old → result ≡ answer file block (ground_of_key file block) (is_some (holding self.old file block)) }
-        ensures after { valid self.old → holding self.new ≡ leaves (ground_of_key file block) (holding self.old) (changed (holding self.old) file (only block) (λ _. None)) }
+        ensures answer { result ≡ answer file block (ground_of_key file block) (is_some (holding self.old file block)) }
+        ensures after { holding self.new ≡ leaves (ground_of_key file block) (holding self.old) (changed (holding self.old) file (only block) (λ _. None)) }
     {
         let key = Key::of(file, block)?;
         Ok(self.remove(key.file, key.block))
@@ -108,13 +100,13 @@ pub trait Table {
 
     /// The lowest key of a file from a block on, with its entry.
     fn lowest(&self, file: u32, block: u32) -> Result<Option<Row>, Fault>
-        ensures { valid self.now → result ≡ answer file block (ground_of_key file block) (lowest_row (holding self.now) file block) }
+        ensures { result ≡ answer file block (ground_of_key file block) (lowest_row (holding self.now) file block) }
     {
         let key = Key::of(file, block)?;
         Ok(self.first_from(key.file, key.block))
     }
 
-    ghost bounded: { (t : Self) → valid t → tally (holding t) ≤ places t };
+    ghost bounded: { (t : Self) → tally (holding t) ≤ places t };
 
-    ghost numbered: { (t : Self) → valid t → Numbered (holding t) };
+    ghost numbered: { (t : Self) → Numbered (holding t) };
 }

@@ -1,7 +1,7 @@
 use Rattle.std.proofs.Common.{◌*◌, ◌<◌, sym, refl, ◌∙◌, rules}
 use Rattle.memory.proofs.Overlays.{block_cut}
 use Rattle.boards.specs.Boards.{size_in}
-use Rattle.boards.proofs.InMemory.{block_is}
+use Rattle.boards.specs.Full.{block_is}
 use Rattle.boards.proofs.MemoryBoard.copy_out.Goals as goal
 
 pub returns : goal.returns

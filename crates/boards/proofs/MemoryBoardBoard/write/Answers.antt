@@ -13,17 +13,16 @@ returns c =
     let e = c.copy_from_slice.ensures.after in
     let n = ap length e in
     let brought = granted c.blocks-2.result number (length new) c.in_ok-admit.ensures in
-    let within : number < size_in memory = omega (arith, c.blocks-2.ensures.answer tt) in
+    let within : number < size_in memory = omega (arith, c.blocks-2.ensures) in
     let whole = brought.1 in
     let written =
     overlaid_put memory c.copy_from_slice.new.self (number * 4096) ((number * 4096 + 4096) - number * 4096) (omega arith)
     ∙ ap (overlaid memory (number * 4096)) e in
     record {
-      meaning = λ _. record {
+      meaning = record {
         answers = search rules;
         replaces = ap block_in written ∙ replaced_in memory new number within whole;
         same_size = ap size_in written ∙ same_size_in memory new number within whole;
-        stays_valid = tt;
       };
       memory = written;
       lender = search rules;

@@ -3,24 +3,17 @@ use Rattle.maps.proofs.Forgets.{forget_leaves, empty_next, empty_all}
 use Rattle.maps.proofs.Map.forget_all.Goals as goal
 
 pub loop-file-init : goal.loop-file-init
-loop-file-init g c = (refl, (λ v. (v, (λ f b l. absurd (omega arith)))))
+loop-file-init g c = (refl, (λ f b l. absurd (omega arith)))
 
 pub loop-file-preserved : goal.loop-file-preserved
 loop-file-preserved g c = (
   c.forget.ensures.room ∙ c.loop-file.invariant.0,
-  (λ v.
-      let i = c.loop-file.invariant.1 v in (
-        c.forget.ensures.kept i.0,
-        empty_next (g.Self.Map.placed c.loop-file.self) (g.Self.Map.placed c.forget.new.self) c.loop-file.file
-            (forget_leaves _ _ c.loop-file.file _ (omega arith) (c.forget.ensures.step i.0)) i.1,
-      )),
+  empty_next (g.Self.Map.placed c.loop-file.self) (g.Self.Map.placed c.forget.new.self) c.loop-file.file
+      (forget_leaves _ _ c.loop-file.file _ (omega arith) c.forget.ensures.step) c.loop-file.invariant.1,
 )
 
 pub returns : goal.returns
 returns g c = record {
-  kept = λ v. (c.loop-file.invariant.1 v).0;
   room = c.loop-file.invariant.0;
-  after = λ v.
-      let i = c.loop-file.invariant.1 v in
-      empty_all (g.Self.Map.placed c.loop-file.self) (g.met.Self.Map.within c.loop-file.self i.0) c.loop-file.file (omega arith) i.1;
+  after = empty_all (g.Self.Map.placed c.loop-file.self) (g.met.Self.Map.within c.loop-file.self) c.loop-file.file (omega arith) c.loop-file.invariant.1;
 }

@@ -5,4 +5,4 @@ use Rattle.maps.proofs.Map.forget_all.Given as goal
 abbrev pub invariant-loop-file : goal.invariant-loop-file
 invariant-loop-file g l =
     (g.Self.Map.room l.self ≡ g.Self.Map.room l.initial.self)
-    × (g.Self.Map.valid l.initial.self → g.Self.Map.valid l.self × EmptyBelow (g.Self.Map.placed l.self) l.file)
+    × EmptyBelow (g.Self.Map.placed l.self) l.file

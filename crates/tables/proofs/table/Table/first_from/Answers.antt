@@ -4,19 +4,19 @@ use Rattle.tables.proofs.Lowest.{lowest_none, lowest_some}
 use Rattle.tables.proofs.table.Table.first_from.Goals as goal
 
 pub returns-in-Some : goal.returns-in-Some
-returns-in-Some g c = λ v.
+returns-in-Some g c =
     sym (lowest_some (g.Self.Table.holding c.args.self.now) c.args.file c.args.block c.loop-b.b c.in-Some.entry
-    (omega arith) (omega arith) (sym (c.in-Some.ensures v)) (c.loop-b.invariant v))
+    (omega arith) (omega arith) (sym c.in-Some.ensures) c.loop-b.invariant)
 
 pub loop-b-preserved : goal.loop-b-preserved
-loop-b-preserved g c = λ v x l m. elim (cases_lt x c.loop-b.b) [
-  | inl k ↦ c.loop-b.invariant v x l k
-  | inr k ↦ ap (g.Self.Table.holding c.args.self.now c.args.file) (let e : x ≡ c.loop-b.b = omega arith in e) ∙ sym (c.in_default.ensures v)
+loop-b-preserved g c = λ x l m. elim (cases_lt x c.loop-b.b) [
+  | inl k ↦ c.loop-b.invariant x l k
+  | inr k ↦ ap (g.Self.Table.holding c.args.self.now c.args.file) (let e : x ≡ c.loop-b.b = omega arith in e) ∙ sym c.in_default.ensures
 ]
 
 pub returns-in_default : goal.returns-in_default
-returns-in_default g c = λ v.
+returns-in_default g c =
     sym (lowest_none (g.Self.Table.holding c.args.self.now) c.args.file c.args.block (λ x l m. elim (cases_lt x c.loop-b.b) [
-      | inl k ↦ c.loop-b.invariant v x l k
-      | inr k ↦ ap (g.Self.Table.holding c.args.self.now c.args.file) (let e : x ≡ c.loop-b.b = omega arith in e) ∙ sym (c.in_default.ensures v)
+      | inl k ↦ c.loop-b.invariant x l k
+      | inr k ↦ ap (g.Self.Table.holding c.args.self.now c.args.file) (let e : x ≡ c.loop-b.b = omega arith in e) ∙ sym c.in_default.ensures
     ]))

@@ -6,29 +6,27 @@ use Rattle.requests.specs.declared.Request.{Request}
 use Rattle.requests.specs.Requests.{asked, heard, asks, tells}
 
 -- What a store of this shape and state told of one call, and what it then is.
-pub record Served (sh : Shape) (s : State) (q : Ask) (t : Told) (sh' : Shape) (s' : State) (ok : Type 0) : Type 0 where
+pub record Served (sh : Shape) (s : State) (q : Ask) (t : Told) (sh' : Shape) (s' : State) : Type 0 where
   pub tells_it : t ≡ told sh s q
   pub leaves : s' ≡ next sh s q
   pub shape : sh' ≡ sh
-  pub valid : ok
 
 -- After k requests: what is left gives the rest of the outcome.
-pub record Going (sh : Shape) (s : State) (before : List Request) (k : ℕ) (rs : List Request) (sh' : Shape) (s' : State) (ok : Type 0) : Type 0 where
+pub record Going (sh : Shape) (s : State) (before : List Request) (k : ℕ) (rs : List Request) (sh' : Shape) (s' : State) : Type 0 where
   pub answers : outcome sh s (asks before) ≡ tells (take k rs) ++ outcome sh s' (asks (drop k rs))
   pub left : final sh s (asks before) ≡ final sh s' (asks (drop k rs))
   pub shape : sh' ≡ sh
-  pub valid : ok
 
 module _ (sh : Shape) (s : State) (before : List Request) where
-  pub start : (ok : Type 0) → ok → Going sh s before 0 before sh s ok
-  start ok o = record { answers = refl; left = refl; shape = refl; valid = o }
+  pub start : Going sh s before 0 before sh s
+  start = record { answers = refl; left = refl; shape = refl }
 
-  pub again : (k : ℕ) (rs : List Request) (sh' : Shape) (s' : State) (ok : Type 0) → Going sh s before k rs sh' s' ok → k < length rs
-      → (d x : Request) (sh'' : Shape) (s'' : State) (ok' : Type 0) → Served sh' s' (asked (get_or rs k d)) (heard x) sh'' s'' ok'
-      → Going sh s before (k + 1) (set rs k x) sh'' s'' ok'
-  again k rs sh' s' ok i l d x sh'' s'' ok' served =
+  pub again : (k : ℕ) (rs : List Request) (sh' : Shape) (s' : State) → Going sh s before k rs sh' s' → k < length rs
+      → (d x : Request) (sh'' : Shape) (s'' : State) → Served sh' s' (asked (get_or rs k d)) (heard x) sh'' s''
+      → Going sh s before (k + 1) (set rs k x) sh'' s''
+  again k rs sh' s' i l d x sh'' s'' served =
       let q = asked (get_or rs k d) in
-      let w = subst (λ (z : Shape). Served z s' q (heard x) sh'' s'' ok') i.shape served in
+      let w = subst (λ (z : Shape). Served z s' q (heard x) sh'' s'') i.shape served in
       let rest = drop (k + 1) rs in
       let cut : drop k rs ≡ get_or rs k d ∷ rest = drop_more rs k d l in
       let kept : drop (k + 1) (set rs k x) ≡ rest = drop-set-lt (k + 1) rs k x (omega arith) in
@@ -46,10 +44,9 @@ module _ (sh : Shape) (s : State) (before : List Request) where
             ∙ (ap (λ (z : List Request). final sh s' (asks z)) cut
             ∙ ap₂ (λ (z : State) (y : List Request). final sh z (asks y)) (sym w.leaves) (sym kept));
         shape = w.shape;
-        valid = w.valid;
       }
 
-  module _ (k : ℕ) (rs : List Request) (sh' : Shape) (s' : State) (ok : Type 0) (i : Going sh s before k rs sh' s' ok) (l : length rs ≤ k) where
+  module _ (k : ℕ) (rs : List Request) (sh' : Shape) (s' : State) (i : Going sh s before k rs sh' s') (l : length rs ≤ k) where
     pub all_told : tells rs ≡ outcome sh s (asks before)
     all_told = sym (
         i.answers

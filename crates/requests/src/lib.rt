@@ -20,11 +20,10 @@ pub struct Request {
 
 /// Makes a call of a store, with a buffer.
 pub fn serve<S: BlockStore>(store: &mut S, call: Call, buffer: &mut [u8]) -> Answer
-    ensures kept { S.BlockStore.valid store.old → S.BlockStore.valid store.new }
-    ensures shape { S.BlockStore.valid store.old → S.BlockStore.shape store.new ≡ S.BlockStore.shape store.old }
-    ensures answer { S.BlockStore.valid store.old → result ≡ answer_to (S.BlockStore.shape store.old) (S.BlockStore.state store.old) call buffer.old }
-    ensures buffer { S.BlockStore.valid store.old → buffer.new ≡ buffer_after (S.BlockStore.shape store.old) (S.BlockStore.state store.old) call buffer.old }
-    ensures after { S.BlockStore.valid store.old → S.BlockStore.state store.new ≡ state_after (S.BlockStore.shape store.old) (S.BlockStore.state store.old) call buffer.old }
+    ensures shape { S.BlockStore.shape store.new ≡ S.BlockStore.shape store.old }
+    ensures answer { result ≡ answer_to (S.BlockStore.shape store.old) (S.BlockStore.state store.old) call buffer.old }
+    ensures buffer { buffer.new ≡ buffer_after (S.BlockStore.shape store.old) (S.BlockStore.state store.old) call buffer.old }
+    ensures after { S.BlockStore.state store.new ≡ state_after (S.BlockStore.shape store.old) (S.BlockStore.state store.old) call buffer.old }
 {
     Ok(match call {
         Call::Write { file, block, mark } => {
@@ -39,10 +38,9 @@ pub fn serve<S: BlockStore>(store: &mut S, call: Call, buffer: &mut [u8]) -> Ans
 
 /// Serves each request of a list in turn, and notes its answer.
 pub fn run<S: BlockStore>(store: &mut S, requests: &mut [Request])
-    ensures kept { S.BlockStore.valid store.old → S.BlockStore.valid store.new }
-    ensures shape { S.BlockStore.valid store.old → S.BlockStore.shape store.new ≡ S.BlockStore.shape store.old }
-    ensures told { S.BlockStore.valid store.old → tells requests.new ≡ outcome (S.BlockStore.shape store.old) (S.BlockStore.state store.old) (asks requests.old) }
-    ensures after { S.BlockStore.valid store.old → S.BlockStore.state store.new ≡ final (S.BlockStore.shape store.old) (S.BlockStore.state store.old) (asks requests.old) }
+    ensures shape { S.BlockStore.shape store.new ≡ S.BlockStore.shape store.old }
+    ensures told { tells requests.new ≡ outcome (S.BlockStore.shape store.old) (S.BlockStore.state store.old) (asks requests.old) }
+    ensures after { S.BlockStore.state store.new ≡ final (S.BlockStore.shape store.old) (S.BlockStore.state store.old) (asks requests.old) }
     ensures calls { calls_of requests.new ≡ calls_of requests.old }
 {
     for request in requests.iter_mut() {

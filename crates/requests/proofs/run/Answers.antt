@@ -7,7 +7,7 @@ use Rattle.requests.proofs.Going.{start, again, all_told, at_end}
 use Rattle.requests.proofs.run.Goals as goal
 
 pub loop-request-init : goal.loop-request-init
-loop-request-init g c = (λ ok. start _ _ _ _ ok, refl)
+loop-request-init g c = (start _ _ _, refl)
 
 pub loop-request-preserved : goal.loop-request-preserved
 loop-request-preserved g c =
@@ -20,18 +20,14 @@ loop-request-preserved g c =
     let lent = c.as_mut_slice.ensures in
     let says = c.serve-request.ensures in
     let long : length c.serve-request.new.buffer ≡ x.buffer.len = omega (arith, lent.len, c.serve-request.auto.buffer) in
-    let filled = with_items_is x.buffer c.serve-request.new.buffer long in (
-      λ ok.
-          let i = c.loop-request.invariant.0 ok in
-          let v = i.valid in
-          let answer = says.answer v ∙ ap (answer_to sh s x.call) lent.value in
-          let buffer = filled ∙ (says.buffer v ∙ ap (buffer_after sh s x.call) lent.value) in
-          again _ _ _ k rs sh s _ i (omega arith) d _ _ _ _ (record {
-            tells_it = λ j. record { answer = answer j; buffer = buffer j };
-            leaves = says.after v ∙ ap (state_after sh s x.call) lent.value;
-            shape = says.shape v;
-            valid = says.kept v;
-          }),
+    let filled = with_items_is x.buffer c.serve-request.new.buffer long in
+    let answer = says.answer ∙ ap (answer_to sh s x.call) lent.value in
+    let buffer = filled ∙ (says.buffer ∙ ap (buffer_after sh s x.call) lent.value) in (
+      again _ _ _ k rs sh s c.loop-request.invariant.0 (omega arith) d _ _ _ (record {
+        tells_it = λ j. record { answer = answer j; buffer = buffer j };
+        leaves = says.after ∙ ap (state_after sh s x.call) lent.value;
+        shape = says.shape;
+      }),
       map-set_same (λ (r : Request). r.call) rs k _ d refl ∙ c.loop-request.invariant.1,
     )
 
@@ -40,9 +36,8 @@ returns g c =
     let end : length c.loop-request.requests ≤ c.loop-request.request-index = omega arith in
     let going = c.loop-request.invariant.0 in
     record {
-      kept = λ ok. (going ok).valid;
-      shape = λ ok. (going ok).shape;
-      told = λ ok. all_told _ _ _ _ _ _ _ _ (going ok) end;
-      after = λ ok. at_end _ _ _ _ _ _ _ _ (going ok) end;
+      shape = going.shape;
+      told = all_told _ _ _ _ _ _ _ going end;
+      after = at_end _ _ _ _ _ _ _ going end;
       calls = c.loop-request.invariant.1;
     }

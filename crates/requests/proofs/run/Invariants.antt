@@ -5,7 +5,6 @@ use Rattle.requests.proofs.run.Given as goal
 
 abbrev pub invariant-loop-request : goal.invariant-loop-request
 invariant-loop-request g l =
-    (g.S.BlockStore.valid l.initial.store
-    → Going (g.S.BlockStore.shape l.initial.store) (g.S.BlockStore.state l.initial.store) l.initial.requests l.request-index l.requests
-    (g.S.BlockStore.shape l.store) (g.S.BlockStore.state l.store) (g.S.BlockStore.valid l.store))
+    Going (g.S.BlockStore.shape l.initial.store) (g.S.BlockStore.state l.initial.store) l.initial.requests l.request-index l.requests
+    (g.S.BlockStore.shape l.store) (g.S.BlockStore.state l.store)
     × (calls_of l.requests ≡ calls_of l.initial.requests)

@@ -33,19 +33,17 @@ impl Taken {
     ///
     /// If the map refuses, it comes back with the map's fault.
     pub fn enter<M: Map>(self, map: &mut M, file: u32, block: u32) -> Result<u32, Refusal>
-        ensures kept { M.Map.valid map.old → M.Map.valid map.new }
         ensures room { M.Map.room map.new ≡ M.Map.room map.old }
         ensures token { result ≡ entered self (map_answer result) }
-        ensures step { M.Map.valid map.old → ◌≡◌ {A = Outcome} (map_answer result, M.Map.placed map.new) (assign_step M.Map.rule (M.Map.room map.old) (M.Map.placed map.old) file block 1 self.number) }
+        ensures step { ◌≡◌ {A = Outcome} (map_answer result, M.Map.placed map.new) (assign_step M.Map.rule (M.Map.room map.old) (M.Map.placed map.old) file block 1 self.number) }
     {
         let Taken { number } = self;
-        match map.assign(file, block, 1, number) {
-            Ok(()) => Ok(number),
-            Err(fault) => Err(Refusal {
+        map.assign(file, block, 1, number)
+            .map(|()| number)
+            .map_err(|fault| Refusal {
                 token: Taken { number },
                 fault,
-            }),
-        }
+            })
     }
 }
 
@@ -96,6 +94,7 @@ impl Pool {
         ensures answer { result ≡ settled_answer entering }
         ensures after { taken_in self.new ≡ settled_taken (taken_in self.old) entering }
     {
+        // No `map_err`: what its closure lends is lost to the proof where it is not called.
         match entering {
             Ok(number) => Ok(number),
             Err(Refusal { token, fault }) => {
@@ -123,9 +122,8 @@ impl Pool {
     fn nearest_free(&self, goal: u32, size: u32) -> Option<u32>
         ensures { result ≡ free_from (taken_in self.now) (board_size size) goal }
     {
-        match self.taken.first_absent(goal, size) {
-            Some(number) => Some(number),
-            None => self.taken.first_absent(0, goal.min(size)),
-        }
+        self.taken
+            .first_absent(goal, size)
+            .or_else(|| self.taken.first_absent(0, goal.min(size)))
     }
 }

@@ -85,9 +85,9 @@ module _ (board : ℕ → List ℕ) (row : ℕ → Option ℕ) (file : ℕ) (low
 
 -- Below, place, size, held, files, width and low are what map, board and lower store meant at the start, and those with 1 what they mean
 -- before a turn.
-module _ (place place1 : Placement) (size size1 : ℕ) (held held1 : ℕ → List ℕ) (files width : ℕ) (low : Contents) (files1 width1 : ℕ) (bytes1 : Contents) (V : Type 0)
+module _ (place place1 : Placement) (size size1 : ℕ) (held held1 : ℕ → List ℕ) (files width : ℕ) (low : Contents) (files1 width1 : ℕ) (bytes1 : Contents)
     (file n : ℕ) (same_p : place1 ≡ place) (same_s : size1 ≡ size) (same_h : held1 ≡ held)
-    (going : Holds files width (copied_below held (place file) file low n) files1 width1 bytes1 V) (reach : Reaches (place file) width size) where
+    (going : Holds files width (copied_below held (place file) file low n) files1 width1 bytes1) (reach : Reaches (place file) width size) where
   -- the copy of the next mapped block is granted
   pub turn_grants : (b p : ℕ) → file < files → place1 file b ≡ Some p → (file < files1) × (b < width1) × (p < size1)
   turn_grants b p lf e =
@@ -96,25 +96,23 @@ module _ (place place1 : Placement) (size size1 : ℕ) (held held1 : ℕ → Lis
       let w = going.same_width in
       (omega arith, omega (arith, r.0), omega (arith, r.1))
 
-  pub turn_copies : (b p files2 width2 : ℕ) (bytes2 : Contents) (W : Type 0) → n ≤ b → (place1 file b ≡ Some p) × Hole (place1 file) n b
-      → Holds files1 width1 (changed bytes1 file (only b) (λ _. held1 p)) files2 width2 bytes2 W
-      → Holds files width (copied_below held (place file) file low (b + 1)) files2 width2 bytes2 W
-  turn_copies b p files2 width2 bytes2 W l found copy = record {
+  pub turn_copies : (b p files2 width2 : ℕ) (bytes2 : Contents) → n ≤ b → (place1 file b ≡ Some p) × Hole (place1 file) n b
+      → Holds files1 width1 (changed bytes1 file (only b) (λ _. held1 p)) files2 width2 bytes2
+      → Holds files width (copied_below held (place file) file low (b + 1)) files2 width2 bytes2
+  turn_copies b p files2 width2 bytes2 l found copy = record {
     same_files = copy.same_files ∙ going.same_files;
     same_width = copy.same_width ∙ going.same_width;
     same_bytes = copy.same_bytes
         ∙ ap₂ (λ (z : Contents) (h : ℕ → List ℕ). changed z file (only b) (λ _. h p)) going.same_bytes same_h
         ∙ copied_next held (place file) file low n b p l (sym (ap (λ (z : Placement). z file b) same_p) ∙ found.0)
         (λ c x y. sym (ap (λ (z : Placement). z file c) same_p) ∙ found.1 c x y);
-    stays_valid = copy.stays_valid;
   }
 
   -- no mapped block is left
-  pub end_copies : Hole (place1 file) n width → Holds files width (copied held (place file) file low) files1 width1 bytes1 V
+  pub end_copies : Hole (place1 file) n width → Holds files width (copied held (place file) file low) files1 width1 bytes1
   end_copies hole = record {
     same_files = going.same_files;
     same_width = going.same_width;
     same_bytes = going.same_bytes
         ∙ copied_all held (place file) file low n width size (λ c x y. sym (ap (λ (z : Placement). z file c) same_p) ∙ hole c x y) reach;
-    stays_valid = going.stays_valid;
   }

@@ -7,16 +7,14 @@ use Rattle.block_set.specs.Members.{none}
 -- ---- what stays
 
 -- A map that was asked means what it meant.
-pub record MapStays (room : ℕ) (place : Placement) (room_after : ℕ) (place_after : Placement) (valid_after : Type 0) : Type 0 where
+pub record MapStays (room : ℕ) (place : Placement) (room_after : ℕ) (place_after : Placement) : Type 0 where
   pub same_room : room_after ≡ room
   pub same_place : place_after ≡ place
-  pub stays_valid : valid_after
 
 -- So does a board that was read.
-pub record BoardStays (size : ℕ) (block : ℕ → List ℕ) (size_after : ℕ) (block_after : ℕ → List ℕ) (valid_after : Type 0) : Type 0 where
+pub record BoardStays (size : ℕ) (block : ℕ → List ℕ) (size_after : ℕ) (block_after : ℕ → List ℕ) : Type 0 where
   pub same_size : size_after ≡ size
   pub same_block : block_after ≡ block
-  pub stays_valid : valid_after
 
 -- ---- what a copy leaves
 

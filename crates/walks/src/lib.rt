@@ -24,16 +24,16 @@ struct Mapped {
 
 /// The board number of a block, or none. A block past all numbers has none.
 pub fn board_of<M: Map>(map: &mut M, file: u32, block: u32) -> Option<u32>
-    ensures answer { M.Map.valid map.old → result ≡ M.Map.placed map.old file block }
-    ensures map { M.Map.valid map.old → MapStays (M.Map.room map.old) (M.Map.placed map.old) (M.Map.room map.new) (M.Map.placed map.new) (M.Map.valid map.new) }
+    ensures answer { result ≡ M.Map.placed map.old file block }
+    ensures map { MapStays (M.Map.room map.old) (M.Map.placed map.old) (M.Map.room map.new) (M.Map.placed map.new) }
 {
     map.find(file, block).ok().flatten()
 }
 
 /// The lowest mapped block of a file from a block on, or none.
 fn lowest_from<M: Map>(map: &mut M, file: u32, block: u32) -> Option<u32>
-    ensures answer { M.Map.valid map.old → LowestFrom (M.Map.placed map.old file) block result }
-    ensures map { M.Map.valid map.old → MapStays (M.Map.room map.old) (M.Map.placed map.old) (M.Map.room map.new) (M.Map.placed map.new) (M.Map.valid map.new) }
+    ensures answer { LowestFrom (M.Map.placed map.old file) block result }
+    ensures map { MapStays (M.Map.room map.old) (M.Map.placed map.old) (M.Map.room map.new) (M.Map.placed map.new) }
 {
     map.next(file, block).ok().flatten()
 }
@@ -43,8 +43,8 @@ fn lowest_from<M: Map>(map: &mut M, file: u32, block: u32) -> Option<u32>
 /// The map's search, which can be dear, is asked only to jump over a hole.
 fn next_mapped<M: Map>(map: &mut M, file: u32, from: u32, to: u32) -> Option<Mapped>
     ensures within { Within from to result }
-    ensures answer { M.Map.valid map.old → Lowest (M.Map.placed map.old file) from to result }
-    ensures map { M.Map.valid map.old → MapStays (M.Map.room map.old) (M.Map.placed map.old) (M.Map.room map.new) (M.Map.placed map.new) (M.Map.valid map.new) }
+    ensures answer { Lowest (M.Map.placed map.old file) from to result }
+    ensures map { MapStays (M.Map.room map.old) (M.Map.placed map.old) (M.Map.room map.new) (M.Map.placed map.new) }
 {
     if from >= to {
         return None;
@@ -65,8 +65,8 @@ fn next_mapped<M: Map>(map: &mut M, file: u32, from: u32, to: u32) -> Option<Map
 
 /// Copies a board block to a block of a file.
 fn copy_block<B: Board, L: Lower>(board: &mut B, lower: &mut L, file: u32, block: u32, number: u32)
-    ensures lower { B.Board.valid board.old → L.Reading.valid lower.old → file < L.Reading.files lower.old → block < L.Reading.width lower.old → number < B.Board.size board.old → Holds (L.Reading.files lower.old) (L.Reading.width lower.old) (changed (L.Reading.bytes lower.old) file (only block) (λ _. B.Board.block board.old number)) (L.Reading.files lower.new) (L.Reading.width lower.new) (L.Reading.bytes lower.new) (L.Reading.valid lower.new) }
-    ensures board { B.Board.valid board.old → BoardStays (B.Board.size board.old) (B.Board.block board.old) (B.Board.size board.new) (B.Board.block board.new) (B.Board.valid board.new) }
+    ensures lower { file < L.Reading.files lower.old → block < L.Reading.width lower.old → number < B.Board.size board.old → Holds (L.Reading.files lower.old) (L.Reading.width lower.old) (changed (L.Reading.bytes lower.old) file (only block) (λ _. B.Board.block board.old number)) (L.Reading.files lower.new) (L.Reading.width lower.new) (L.Reading.bytes lower.new) }
+    ensures board { BoardStays (B.Board.size board.old) (B.Board.block board.old) (B.Board.size board.new) (B.Board.block board.new) }
 {
     let mut buffer = [0u8; BLOCK_BYTES];
     // Neither is refused where the board has the one block and the file the other.
@@ -76,7 +76,7 @@ fn copy_block<B: Board, L: Lower>(board: &mut B, lower: &mut L, file: u32, block
 
 /// Makes every block of a file zero bytes, in pieces that a lower store clears at once.
 pub fn clear_file<L: Lower>(lower: &mut L, file: u32)
-    ensures { L.Reading.valid lower.old → file < L.Reading.files lower.old → Holds (L.Reading.files lower.old) (L.Reading.width lower.old) (changed (L.Reading.bytes lower.old) file (inside 0 (L.Reading.width lower.old)) (λ _. zero_block)) (L.Reading.files lower.new) (L.Reading.width lower.new) (L.Reading.bytes lower.new) (L.Reading.valid lower.new) }
+    ensures { file < L.Reading.files lower.old → Holds (L.Reading.files lower.old) (L.Reading.width lower.old) (changed (L.Reading.bytes lower.old) file (inside 0 (L.Reading.width lower.old)) (λ _. zero_block)) (L.Reading.files lower.new) (L.Reading.width lower.new) (L.Reading.bytes lower.new) }
 {
     let width = lower.width();
     let mut first = 0;
@@ -90,9 +90,9 @@ pub fn clear_file<L: Lower>(lower: &mut L, file: u32)
 
 /// Copies every mapped block of a file to the lower store.
 pub fn copy_down<M: Map, B: Board, L: Lower>(map: &mut M, board: &mut B, lower: &mut L, file: u32)
-    ensures lower { M.Map.valid map.old → B.Board.valid board.old → L.Reading.valid lower.old → file < L.Reading.files lower.old → Reaches (M.Map.placed map.old file) (L.Reading.width lower.old) (B.Board.size board.old) → Holds (L.Reading.files lower.old) (L.Reading.width lower.old) (copied (B.Board.block board.old) (M.Map.placed map.old file) file (L.Reading.bytes lower.old)) (L.Reading.files lower.new) (L.Reading.width lower.new) (L.Reading.bytes lower.new) (L.Reading.valid lower.new) }
-    ensures board { B.Board.valid board.old → BoardStays (B.Board.size board.old) (B.Board.block board.old) (B.Board.size board.new) (B.Board.block board.new) (B.Board.valid board.new) }
-    ensures map { M.Map.valid map.old → MapStays (M.Map.room map.old) (M.Map.placed map.old) (M.Map.room map.new) (M.Map.placed map.new) (M.Map.valid map.new) }
+    ensures lower { file < L.Reading.files lower.old → Reaches (M.Map.placed map.old file) (L.Reading.width lower.old) (B.Board.size board.old) → Holds (L.Reading.files lower.old) (L.Reading.width lower.old) (copied (B.Board.block board.old) (M.Map.placed map.old file) file (L.Reading.bytes lower.old)) (L.Reading.files lower.new) (L.Reading.width lower.new) (L.Reading.bytes lower.new) }
+    ensures board { BoardStays (B.Board.size board.old) (B.Board.block board.old) (B.Board.size board.new) (B.Board.block board.new) }
+    ensures map { MapStays (M.Map.room map.old) (M.Map.placed map.old) (M.Map.room map.new) (M.Map.placed map.new) }
 {
     let width = lower.width();
     let mut from = 0;
@@ -111,8 +111,8 @@ pub struct Gathered {
 
 /// Gathers the board blocks of a file's mapped blocks from `from` up to and without `to`.
 pub fn gather<M: Map>(map: &mut M, file: u32, from: u32, to: u32) -> Gathered
-    ensures answer { M.Map.valid map.old → Gathers (M.Map.placed map.old file) from to (member result.blocks) result.count }
-    ensures map { M.Map.valid map.old → MapStays (M.Map.room map.old) (M.Map.placed map.old) (M.Map.room map.new) (M.Map.placed map.new) (M.Map.valid map.new) }
+    ensures answer { Gathers (M.Map.placed map.old file) from to (member result.blocks) result.count }
+    ensures map { MapStays (M.Map.room map.old) (M.Map.placed map.old) (M.Map.room map.new) (M.Map.placed map.new) }
 {
     let mut blocks = BlockSet::new();
     let mut count = 0;

@@ -7,10 +7,10 @@ use Rattle.walks.proofs.clear_file.Given as goal
 abbrev pub invariant-loop-first : goal.invariant-loop-first
 invariant-loop-first g l =
     (l.first ≤ l.width)
-    × (g.L.Reading.valid l.initial.lower → l.file < g.L.Reading.files l.initial.lower
+    × (l.file < g.L.Reading.files l.initial.lower
     → Holds (g.L.Reading.files l.initial.lower) (g.L.Reading.width l.initial.lower)
     (changed (g.L.Reading.bytes l.initial.lower) l.file (inside 0 l.first) (λ _. zero_block))
-    (g.L.Reading.files l.lower) (g.L.Reading.width l.lower) (g.L.Reading.bytes l.lower) (g.L.Reading.valid l.lower))
+    (g.L.Reading.files l.lower) (g.L.Reading.width l.lower) (g.L.Reading.bytes l.lower))
 
 abbrev pub decreases-loop-first : goal.decreases-loop-first
 decreases-loop-first g l = l.width - l.first

@@ -7,27 +7,22 @@ pub loop-at-preserved : goal.loop-at-preserved
 loop-at-preserved g c = (
   search rules,
   search rules,
-  (λ vm vb vl lf reach.
+  (λ lf reach.
       let low = g.L.Reading.bytes c.args.lower.now in
-      let m = c.loop-at.invariant.0 vm in
-      let b = c.loop-at.invariant.1 vb in
-      let going = c.loop-at.invariant.2 vm vb vl lf reach in
-      let found = c.in-Some.ensures.answer m.stays_valid in
-      let granted = turn_grants _ _ _ _ _ _ _ _ low _ _ _ _ c.args.file c.loop-at.from m.same_place b.same_size b.same_block going reach c.in-Some.at.block c.in-Some.at.board lf found.0 in
-      turn_copies _ _ _ _ _ _ _ _ low _ _ _ _ c.args.file c.loop-at.from m.same_place b.same_size b.same_block going reach c.in-Some.at.block c.in-Some.at.board _ _ _ _
+      let m = c.loop-at.invariant.0 in
+      let b = c.loop-at.invariant.1 in
+      let going = c.loop-at.invariant.2 lf reach in
+      let found = c.in-Some.ensures.answer in
+      let granted = turn_grants _ _ _ _ _ _ _ _ low _ _ _ c.args.file c.loop-at.from m.same_place b.same_size b.same_block going reach c.in-Some.at.block c.in-Some.at.board lf found.0 in
+      turn_copies _ _ _ _ _ _ _ _ low _ _ _ c.args.file c.loop-at.from m.same_place b.same_size b.same_block going reach c.in-Some.at.block c.in-Some.at.board _ _ _
       c.in-Some.ensures.within.0 found
-      (c.copy_block.ensures.lower b.stays_valid going.stays_valid (omega arith) (omega arith) (omega arith))),
+      (c.copy_block.ensures.lower (omega arith) (omega arith) (omega arith))),
 )
 
-pub returns : goal.returns
-returns g c = record {
-  lower = λ vm vb vl lf reach.
-      let low = g.L.Reading.bytes c.args.lower.now in
-      let m = c.loop-at.invariant.0 vm in
-      let b = c.loop-at.invariant.1 vb in
-      let going = c.loop-at.invariant.2 vm vb vl lf reach in
-      end_copies _ _ _ _ _ _ _ _ low _ _ _ _ c.args.file c.loop-at.from m.same_place b.same_size b.same_block going reach
-      (subst (Hole (g.M.Map.placed c.loop-at.map c.args.file) c.loop-at.from) (c.width-width.ensures.answer vl) (c.in_default.ensures.answer m.stays_valid));
-  board = λ v. c.loop-at.invariant.1 v;
-  map = search rules;
-}
+pub returns-clause-lower : goal.returns-clause-lower
+returns-clause-lower g c = λ lf reach.
+    let low = g.L.Reading.bytes c.args.lower.now in
+    let m = c.loop-at.invariant.0 in
+    let b = c.loop-at.invariant.1 in
+    end_copies _ _ _ _ _ _ _ _ low _ _ _ c.args.file c.loop-at.from m.same_place b.same_size b.same_block (c.loop-at.invariant.2 lf reach) reach
+    (subst (Hole (g.M.Map.placed c.loop-at.map c.args.file) c.loop-at.from) c.width-width.ensures c.in_default.ensures.answer)

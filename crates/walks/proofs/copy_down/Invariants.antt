@@ -7,15 +7,13 @@ use Rattle.walks.proofs.copy_down.Given as goal
 -- The mapped blocks below `from` are copied, and all else is as it was.
 abbrev pub invariant-loop-at : goal.invariant-loop-at
 invariant-loop-at g l =
-    (g.M.Map.valid l.initial.map
-    → MapStays (g.M.Map.room l.initial.map) (g.M.Map.placed l.initial.map) (g.M.Map.room l.map) (g.M.Map.placed l.map) (g.M.Map.valid l.map))
-    × (g.B.Board.valid l.initial.board
-    → BoardStays (g.B.Board.size l.initial.board) (g.B.Board.block l.initial.board) (g.B.Board.size l.board) (g.B.Board.block l.board) (g.B.Board.valid l.board))
-    × (g.M.Map.valid l.initial.map → g.B.Board.valid l.initial.board → g.L.Reading.valid l.initial.lower → l.file < g.L.Reading.files l.initial.lower
+    MapStays (g.M.Map.room l.initial.map) (g.M.Map.placed l.initial.map) (g.M.Map.room l.map) (g.M.Map.placed l.map)
+    × BoardStays (g.B.Board.size l.initial.board) (g.B.Board.block l.initial.board) (g.B.Board.size l.board) (g.B.Board.block l.board)
+    × (l.file < g.L.Reading.files l.initial.lower
     → Reaches (g.M.Map.placed l.initial.map l.file) (g.L.Reading.width l.initial.lower) (g.B.Board.size l.initial.board)
     → Holds (g.L.Reading.files l.initial.lower) (g.L.Reading.width l.initial.lower)
     (copied_below (g.B.Board.block l.initial.board) (g.M.Map.placed l.initial.map l.file) l.file (g.L.Reading.bytes l.initial.lower) l.from)
-    (g.L.Reading.files l.lower) (g.L.Reading.width l.lower) (g.L.Reading.bytes l.lower) (g.L.Reading.valid l.lower))
+    (g.L.Reading.files l.lower) (g.L.Reading.width l.lower) (g.L.Reading.bytes l.lower))
 
 abbrev pub decreases-loop-at : goal.decreases-loop-at
 decreases-loop-at g l = l.width - l.from

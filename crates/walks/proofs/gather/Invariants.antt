@@ -9,10 +9,8 @@ use Rattle.walks.proofs.gather.Given as goal
 abbrev pub invariant-loop-at : goal.invariant-loop-at
 invariant-loop-at g l =
     (l.count + l.from ≤ l.next)
-    × (g.M.Map.valid l.initial.map
-    → MapStays (g.M.Map.room l.initial.map) (g.M.Map.placed l.initial.map) (g.M.Map.room l.map) (g.M.Map.placed l.map) (g.M.Map.valid l.map))
-    × (g.M.Map.valid l.initial.map
-    → SoFar (g.M.Map.placed l.initial.map l.file) (inside l.from (l.to - l.from)) l.next (member l.blocks) l.count)
+    × MapStays (g.M.Map.room l.initial.map) (g.M.Map.placed l.initial.map) (g.M.Map.room l.map) (g.M.Map.placed l.map)
+    × SoFar (g.M.Map.placed l.initial.map l.file) (inside l.from (l.to - l.from)) l.next (member l.blocks) l.count
 
 abbrev pub decreases-loop-at : goal.decreases-loop-at
 decreases-loop-at g l = l.to - l.next

@@ -11,21 +11,16 @@ use extents::key::Key;
 
 /// A table of one file's keys.
 pub trait Keys {
-    /// Holds of a table that is as its own calls left it.
-    ghost valid: { Self → Type 0 };
-
     /// What it holds at each start.
     ghost table: { Self → KeyTable };
 
     /// What it holds at a start.
     fn key_at(&self, start: u16) -> Option<Entry>
-        ensures { valid self.now → result ≡ table self.now start };
+        ensures { result ≡ table self.now start };
 }
 
 /// A short list of keys, searched from the front.
 impl Keys for Vec<Key> {
-    ghost valid = { λ _. Unit {0} };
-
     ghost table = { λ keys. table_of keys.items };
 
     fn key_at(&self, start: u16) -> Option<Entry> {
@@ -51,7 +46,7 @@ pub struct Held {
 
 /// Tries the keys on a block's path in order, up to the first that is held.
 pub fn first_held<K: Keys>(keys: &K, block: u16) -> Held
-    ensures { K.Keys.valid keys.now → result ≡ record { key = first_held_key (K.Keys.table keys.now) (path block); tried = tried (K.Keys.table keys.now) block } }
+    ensures { result ≡ record { key = first_held_key (K.Keys.table keys.now) (path block); tried = tried (K.Keys.table keys.now) block } }
 {
     let mut start = block;
     let mut tried = 0;
@@ -96,7 +91,7 @@ pub struct Found {
 
 /// Looks a block up.
 pub fn look_up<K: Keys>(keys: &K, block: u16) -> Found
-    ensures { K.Keys.valid keys.now → result ≡ record { board = lookup (K.Keys.table keys.now) block; tried = tried (K.Keys.table keys.now) block } }
+    ensures { result ≡ record { board = lookup (K.Keys.table keys.now) block; tried = tried (K.Keys.table keys.now) block } }
 {
     let held = first_held(keys, block);
     Found {

@@ -4,6 +4,6 @@ use Rattle.look_ups.proofs.look_up.Goals as goal
 
 pub returns : goal.returns
 unfolding lookup
-returns g c v =
-    let h = c.first_held-held.ensures v in
+returns g c =
+    let h = c.first_held-held.ensures in
     λ j. record { board = (c.board_by.ensures ∙ ap (λ k. says k.key c.args.block) h) j; tried = (h j).tried }

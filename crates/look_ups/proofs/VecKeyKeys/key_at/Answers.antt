@@ -4,7 +4,7 @@ use Rattle.extents.proofs.OneRun.{table_here, table_past, table_end}
 use Rattle.look_ups.proofs.VecKeyKeys.key_at.Goals as goal
 
 pub returns-then-key-start : goal.returns-then-key-start
-returns-then-key-start c _ =
+returns-then-key-start c =
     sym (ap (λ ks. table_of ks c.args.start) (sym c.as_slice-keys.ensures.value) ∙ c.loop-key.invariant
     ∙ table_here c.as_slice-keys.result.now c.loop-key.key-index _ c.args.start c.loop-key-test.true c.if-key-start.true)
 
@@ -14,6 +14,6 @@ loop-key-preserved c =
     ∙ table_past c.as_slice-keys.result.now c.loop-key.key-index _ c.args.start c.loop-key-test.true c.if-key-start.false
 
 pub returns : goal.returns
-returns c _ =
+returns c =
     sym (ap (λ ks. table_of ks c.args.start) (sym c.as_slice-keys.ensures.value) ∙ c.loop-key.invariant
     ∙ table_end c.as_slice-keys.result.now c.loop-key.key-index c.args.start c.loop-key-test.false)

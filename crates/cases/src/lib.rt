@@ -5,11 +5,9 @@
 ghost use Rattle.cases.specs.Cases.{Worked};
 
 /// The worked cases hold by the rules alone.
-pub fn worked_cases() -> u8
+pub fn worked_cases()
     ensures { Worked }
-{
-    0
-}
+{}
 
 #[cfg(test)]
 mod tests {
@@ -30,7 +28,7 @@ mod tests {
     // The worked cases, one after another, as the code answers them.
     #[test]
     fn the_code_agrees_with_the_worked_cases(rt: HostRuntime) -> Result<(), Fail> {
-        let _ = worked_cases();
+        worked_cases();
         for (block, starts, length) in PATHS {
             assert_eq!(rt; path_length(block), length);
             for k in 0..4u32 {

@@ -1,7 +1,8 @@
 -- The map that holds just one run, and the table of a list of keys.
-use Rattle.std.proofs.Common.{◌≡◌, ℕ, ◌+◌, ◌-◌, ◌<◌, ◌≤◌, true, false, eqb, ◌⊎◌, List, [], ◌∷◌, length, get_or, drop, Some, None, sym, refl, ap, ◌∙◌, inl, inr, add-one, arith, drop-cons, pow_pos}
-use Rattle.std.proofs.lemmas.List.{drop_all}
-use Rattle.std.proofs.lemmas.Bool.{cases_lt, cases_Bool, eqb-true, eq-eqb, ne_eqb, cond-true, cond-false}
+use Rattle.std.proofs.Common.{◌≡◌, ℕ, ◌+◌, ◌-◌, ◌<◌, ◌≤◌, true, false, eqb, ◌⊎◌, Bool, cond, List, [], ◌∷◌, Some, None, sym, refl, ap, ◌∙◌, inl, inr, arith, pow_pos}
+use Rattle.std.specs.List.{find}
+use Rattle.std.specs.Option.{option_map}
+use Rattle.std.proofs.lemmas.Bool.{cases_lt, cases_Bool, eqb-true, eq-eqb, cond-true, cond-false}
 use Rattle.blocks.specs.Blocks.{inside}
 use Rattle.blocks.specs.declared.Entry.{Entry}
 use Rattle.blocks.proofs.Changes.{inside_yes, inside_before, inside_after}
@@ -107,23 +108,19 @@ listed m ks h a s p = ((λ e. (h a s p).1 (table_holds ks a s p e)), back)
 pub run_reads : (first n p : ℕ) (ks : List Key) → ListsKeys (run_map first n p) ks → (b : ℕ) → lookup (table_of ks) b ≡ run_map first n p b
 run_reads first n p ks h b = reads_back (run_map first n p) (table_of ks) (listed (run_map first n p) ks h) b
 
--- ---- the table of what is left of a list
-
-split_at : (ks : List Key) (i : ℕ) (d : Key) → i < length ks → drop i ks ≡ get_or ks i d ∷ drop (i + 1) ks
-split_at ks i d l = rw add-one (drop-cons ks i d l)
-
-pub table_here : (ks : List Key) (i : ℕ) (d : Key) (x : ℕ) → i < length ks → (get_or ks i d).start ≡ x
-    → table_of (drop i ks) x ≡ Some (entry (get_or ks i d).length (get_or ks i d).board)
+-- the table holds at a start what the first key of the list that starts there says
+pub table_found : (ks : List Key) (x : ℕ) → table_of ks x ≡ option_map (λ k. entry k.length k.board) (find (λ k. eqb k.start x) ks)
 unfolding table_of
-table_here ks i d x l e =
-    ap (λ t. table_of t x) (split_at ks i d l) ∙ ap (λ b. or_at b (get_or ks i d) (table_of (drop (i + 1) ks) x)) (eq-eqb (get_or ks i d).start x e)
+table_found [] x = refl
+table_found (k ∷ ks) x = at (cases_Bool (eqb k.start x)) (table_found ks x)
+  where
+    f : Key → Entry
+    f k = entry k.length k.board
 
-pub table_past : (ks : List Key) (i : ℕ) (d : Key) (x : ℕ) → i < length ks → ((get_or ks i d).start ≡ x → ⊥)
-    → table_of (drop i ks) x ≡ table_of (drop (i + 1) ks) x
-unfolding table_of
-table_past ks i d x l ne =
-    ap (λ t. table_of t x) (split_at ks i d l) ∙ ap (λ b. or_at b (get_or ks i d) (table_of (drop (i + 1) ks) x)) (ne_eqb (get_or ks i d).start x ne)
+    p : Key → Bool
+    p k = eqb k.start x
 
-pub table_end : (ks : List Key) (i x : ℕ) → length ks ≤ i → table_of (drop i ks) x ≡ None
-unfolding table_of
-table_end ks i x l = ap (λ t. table_of t x) (drop_all i ks l)
+    at : (eqb k.start x ≡ true) ⊎ (eqb k.start x ≡ false) → table_of ks x ≡ option_map f (find p ks)
+        → or_at (eqb k.start x) k (table_of ks x) ≡ option_map f (cond (p k) (Some k) (find p ks))
+    at (inl t) more = ap (λ b. or_at b k (table_of ks x)) t ∙ sym (ap (λ b. option_map f (cond b (Some k) (find p ks))) t)
+    at (inr t) more = ap (λ b. or_at b k (table_of ks x)) t ∙ more ∙ sym (ap (λ b. option_map f (cond b (Some k) (find p ks))) t)

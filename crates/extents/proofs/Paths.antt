@@ -49,7 +49,7 @@ rest_none : (k b : ℕ) → rest 0 k b ≡ []
 unfolding rest
 rest_none k b = refl
 
-chain : (n k f b : ℕ) → n + k ≡ 12 → n ≤ f → clearing f (trunc k b) ≡ trunc k b ∷ rest n k b
+pub chain : (n k f b : ℕ) → n + k ≡ 12 → n ≤ f → clearing f (trunc k b) ≡ trunc k b ∷ rest n k b
 chain zero k f b e h =
     let i : 12 ≡ k = omega arith in
     clearing_done f (trunc k b) (multiple_mod 12 (trunc k b) (subst (λ n. Multiple (2 ^ 12) (trunc n b)) i (trunc_multiple 12 b)))

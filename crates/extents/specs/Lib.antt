@@ -1,3 +1,4 @@
 pub mod Extents
 pub mod Runs
 pub mod Laws
+pub mod OnPath

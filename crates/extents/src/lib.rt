@@ -4,3 +4,4 @@
 
 pub mod key;
 pub mod laws;
+pub mod path;

@@ -2,12 +2,13 @@
 
 #![tactic(auto)]
 
-ghost use Rattle.std.specs.Prelude.{◌≡◌};
-ghost use Rattle.extents.specs.Extents.{KeyTable, path, first_held_key, says, lookup, tried};
+ghost use Rattle.std.specs.Prelude.{◌≡◌, ◌==◌, find, option_map};
+ghost use Rattle.extents.specs.Extents.{KeyTable, entry, path, first_held_key, says, lookup, tried};
 ghost use Rattle.extents.specs.Runs.{table_of};
 
 use blocks::Entry;
 use extents::key::Key;
+use extents::path::Path;
 
 /// A table of one file's keys.
 pub trait Keys {
@@ -24,17 +25,18 @@ impl Keys for Vec<Key> {
     ghost table = { λ keys. table_of keys.items };
 
     fn key_at(&self, start: u16) -> Option<Entry> {
-        let keys = self.as_slice();
-        for key in keys {
-            if key.start == start {
-                return Some(Entry {
-                    length: key.length,
-                    board: key.board,
-                });
-            }
-        }
-        None
+        entry_in(self, start)
     }
+}
+
+/// What the first key of the list that begins at a start says.
+fn entry_in(keys: &[Key], start: u16) -> Option<Entry>
+    ensures { result ≡ option_map (λ k. entry k.length k.board) (find (λ k. k.start == start) keys.now) }
+{
+    keys.iter().find(|key| key.start == start).map(|key| Entry {
+        length: key.length,
+        board: key.board,
+    })
 }
 
 /// The first key that is held on a path, and how many keys were tried.
@@ -48,9 +50,8 @@ pub struct Held {
 pub fn first_held<K: Keys>(keys: &K, block: u16) -> Held
     ensures { result ≡ record { key = first_held_key (K.Keys.table keys.now) (path block); tried = tried (K.Keys.table keys.now) block } }
 {
-    let mut start = block;
     let mut tried = 0;
-    loop {
+    for start in Path::of(block) {
         tried += 1;
         if let Some(entry) = keys.key_at(start) {
             let key = Key {
@@ -63,11 +64,8 @@ pub fn first_held<K: Keys>(keys: &K, block: u16) -> Held
                 tried,
             };
         }
-        if start & 4095 == 0 {
-            return Held { key: None, tried };
-        }
-        start &= start - 1;
     }
+    Held { key: None, tried }
 }
 
 /// The board number of a block by a key, or none where the key's extent does not contain it.

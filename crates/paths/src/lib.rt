@@ -5,13 +5,15 @@
 ghost use Rattle.std.specs.Prelude.{◌≡◌};
 ghost use Rattle.extents.specs.Extents.{length_of_path, key_on_path};
 
+use extents::path::Path;
+
 /// How many keys the look-up of a block may try; 0 for a block above 65,535.
 pub fn path_length(block: u32) -> u32
     ensures { result ≡ length_of_path block }
 {
-    if block > 65535 {
+    let Ok(block) = u16::try_from(block) else {
         return 0;
-    }
+    };
     1 + (block & 4095).count_ones()
 }
 
@@ -19,17 +21,8 @@ pub fn path_length(block: u32) -> u32
 pub fn path_key(block: u32, k: u32) -> u32
     ensures { result ≡ key_on_path block k }
 {
-    if block > 65535 {
+    let Ok(block) = u16::try_from(block) else {
         return 65536;
-    }
-    let mut x = block;
-    let mut i = 0;
-    while i < k {
-        if x & 4095 == 0 {
-            return 65536;
-        }
-        x &= x - 1;
-        i += 1;
-    }
-    x
+    };
+    Path::of(block).nth(k as usize).map_or(65536, u32::from)
 }

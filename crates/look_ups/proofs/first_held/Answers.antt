@@ -1,26 +1,20 @@
-use Rattle.std.proofs.Common.{sym}
-use Rattle.extents.proofs.Calls.{along_start, along_next}
+use Rattle.std.proofs.Common.{sym, ap, ◌∙◌}
+use Rattle.extents.specs.OnPath.{starts}
 use Rattle.extents.proofs.Looks.{looking_start, looking_hit, looking_end, looking_next}
 use Rattle.look_ups.proofs.first_held.Goals as goal
 
-pub loop-entry-init : goal.loop-entry-init
-loop-entry-init g c = (along_start c.args.block, looking_start _ c.args.block)
+pub loop-start-init : goal.loop-start-init
+loop-start-init g c = looking_start (ap starts c.into_iter-start-iterator.ensures.into_iter_gives ∙ c.of-start-items.ensures)
 
-pub returns-in-Some : goal.returns-in-Some
-returns-in-Some g c =
-    let h = looking_hit (g.K.Keys.table c.args.keys.now) c.args.block c.loop-entry.tried c.loop-entry.start c.in-Some.entry
-    c.loop-entry.invariant.1 (sym c.in-Some.ensures) in
+pub returns-in-Some-key_at : goal.returns-in-Some-key_at
+returns-in-Some-key_at g c =
+    let h = looking_hit c.loop-start.invariant c.in-Some.ensures.steps (sym c.in-Some-key_at.ensures) in
     λ j. record { key = sym h.0 j; tried = sym h.1 j }
 
-pub returns-then-start-eq0 : goal.returns-then-start-eq0
-returns-then-start-eq0 g c =
-    let h = looking_end (g.K.Keys.table c.args.keys.now) c.args.block c.loop-entry.tried c.loop-entry.start
-    c.loop-entry.invariant.1 (sym c.in_default.ensures) c.if-start-eq0.true in
-    λ j. record { key = sym h.0 j; tried = sym h.1 j }
+pub loop-start-preserved : goal.loop-start-preserved
+loop-start-preserved g c = looking_next c.loop-start.invariant c.in-Some.ensures.steps (sym c.in_default.ensures)
 
-pub loop-entry-preserved : goal.loop-entry-preserved
-loop-entry-preserved g c = (
-  along_next c.loop-entry.tried c.loop-entry.start c.loop-entry.invariant.0 c.if-start-eq0.false,
-  looking_next (g.K.Keys.table c.args.keys.now) c.args.block c.loop-entry.tried c.loop-entry.start
-      c.loop-entry.invariant.0 c.loop-entry.invariant.1 (sym c.in_default.ensures) c.if-start-eq0.false,
-)
+pub returns : goal.returns
+returns g c =
+    let h = looking_end c.loop-start.invariant c.in-None.ensures.steps.0 in
+    λ j. record { key = sym h.0 j; tried = sym h.1 j }

@@ -1,18 +1,15 @@
-use Rattle.extents.proofs.Calls.{at_start, at_next, key_past, key_none, key_here}
-use native.Mathlib.Omega.{arith}
+use Rattle.std.proofs.Common.{rules, arith}
+use Rattle.std.proofs.lemmas.Iterator.Consumers.{YieldsList-from_first, nth_from_yields_List}
+use Rattle.extents.specs.Extents.{path}
+use Rattle.extents.specs.OnPath.{starts}
+use Rattle.extents.proofs.Calls.{key_past, key_here}
 use Rattle.paths.proofs.path_key.Goals as goal
 
-pub returns-then-block-gt65535 : goal.returns-then-block-gt65535
-returns-then-block-gt65535 c = key_past c.args.block c.args.k (omega arith)
-
-pub loop-i-init : goal.loop-i-init
-loop-i-init c = (at_start c.args.block, omega arith)
-
-pub returns-then-x-eq0 : goal.returns-then-x-eq0
-returns-then-x-eq0 c = key_none c.args.block c.loop-i.i c.loop-i.x c.args.k (omega arith) c.loop-i.invariant.0 c.if-x-eq0.true (omega arith)
-
-pub loop-i-preserved : goal.loop-i-preserved
-loop-i-preserved c = (at_next c.args.block c.loop-i.i c.loop-i.x c.loop-i.invariant.0 c.if-x-eq0.false, omega arith)
+pub returns-in_default : goal.returns-in_default
+returns-in_default c = search (rules, key_past)
 
 pub returns : goal.returns
-returns c = key_here c.args.block c.loop-i.i c.loop-i.x c.args.k (omega arith) c.loop-i.invariant.0 (omega arith)
+returns c =
+    let n = nth_from_yields_List c.nth.result c.nth.new.self c.args.k c.nth.ensures.ran (YieldsList-from_first (λ x. x) starts (path c.in-Ok.block) c.of.ensures) in
+    let h = key_here c.in-Ok.block c.args.k c.nth.result (omega arith) n in
+    search rules

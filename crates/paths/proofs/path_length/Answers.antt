@@ -1,13 +1,12 @@
+use Rattle.std.proofs.Common.{rules}
 use Rattle.extents.proofs.Calls.{low_ones, length_past, length_here}
-use native.Mathlib.Omega.{arith}
-use borrow.Author.Rules.{rules}
 use Rattle.paths.proofs.path_length.Goals as goal
 
-pub returns-then-block-gt65535 : goal.returns-then-block-gt65535
-returns-then-block-gt65535 c = length_past c.args.block (omega arith)
+pub returns-in_default : goal.returns-in_default
+returns-in_default c = search (rules, length_past)
 
 pub overflow_add-result : goal.overflow_add-result
-overflow_add-result c = let h = low_ones c.args.block in search rules
+overflow_add-result c = search (rules, low_ones)
 
 pub returns : goal.returns
-returns c = length_here c.args.block (omega arith)
+returns c = search (rules, length_here)

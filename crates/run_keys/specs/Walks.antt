@@ -1,5 +1,5 @@
 -- What the walk over a run gives, step by step and as a whole.
-use Rattle.std.specs.Prelude.{◌≡◌, ℕ, ◌+◌, ◌<◌, ◌≤◌, List, Some, None, Ok, Err, Option, Result}
+use Rattle.std.specs.Prelude.{◌≡◌, ℕ, ◌+◌, ◌-◌, ◌<◌, ◌≤◌, List, Some, None, Ok, Err, Option, Result}
 use Rattle.faults.specs.declared.Ground.{Ground}
 use Rattle.extents.specs.declared.key.Key.{Key}
 use Rattle.run_keys.specs.declared.walk.Walk.{Walk}
@@ -19,6 +19,10 @@ Stepped w None v = (w.end ≤ w.at) × (v ≡ w)
 Stepped w (Some k) v =
     (w.at < w.end) × (k ≡ key w.at (piece w.at w.end) w.board)
     × (v.at ≡ w.at + piece w.at w.end) × (v.end ≡ w.end) × (v.board ≡ w.board + piece w.at w.end)
+
+-- The keys that are still to come.
+abbrev pub to_come : Walk → List Key
+to_come w = walk (w.end - w.at) w.at w.end w.board
 
 -- The list has the keys of the map that holds just this run, in the order of the walk.
 pub record Planned (first n p : ℕ) (ks : List Key) : Type 0 where

@@ -9,7 +9,7 @@ ghost use Rattle.std.specs.Iterator.{at_most};
 use crate::walk::Walk;
 use extents::key::Key;
 use faults::Ground;
-use std::alloc::{AllocError, AllocFailed, Global};
+use std::alloc::{AllocError, Global};
 
 /// The length of the largest aligned extent that starts at a block and has at most so many blocks; 0 where none is left.
 pub fn piece_length(block: u32, left: u32) -> u32
@@ -24,6 +24,18 @@ pub fn piece_length(block: u32, left: u32) -> u32
 }
 
 impl Walk {
+    /// A walk over the blocks from l up to r, which lie at the board numbers from `board` on.
+    pub fn between(l: u32, r: u32, board: u32) -> Walk
+        requires { (r ≤ 65536) × (board + (r - l) ≤ 4096) }
+        ensures { (result.«at» ≡ l) × (result.end ≡ r) × (result.board ≡ board) }
+    {
+        Walk {
+            at: l,
+            end: r,
+            board,
+        }
+    }
+
     /// A walk over the n blocks from `first`, which lie at the board numbers from `board` on.
     pub fn over(first: u32, n: u32, board: u32) -> Result<Walk, Ground>
         ensures { Begun first n board result }
@@ -37,11 +49,7 @@ impl Walk {
         if board > 4096 || n > 4096 - board {
             return Err(Ground::BoardNumber);
         }
-        Ok(Walk {
-            at: first,
-            end: first + n,
-            board,
-        })
+        Ok(Walk::between(first, first + n, board))
     }
 }
 
@@ -85,10 +93,10 @@ impl From<Ground> for RunError {
     }
 }
 
-impl From<AllocFailed<Key>> for RunError {
+impl From<AllocError> for RunError {
     ghost from_gives = { λ _ r. r ≡ NoMemory };
 
-    fn from(_refused: AllocFailed<Key>) -> RunError {
+    fn from(_refused: AllocError) -> RunError {
         RunError::NoMemory
     }
 }
@@ -97,10 +105,6 @@ impl From<AllocFailed<Key>> for RunError {
 pub fn keys_of_run(heap: Global, first: u32, n: u32, board: u32) -> Result<Vec<Key>, RunError>
     ensures { MatchResult result (λ v. Planned first n board v.items) (Unplanned first n board) }
 {
-    let walk = Walk::over(first, n, board)?;
-    let mut keys = Vec::new(heap);
-    for key in walk {
-        keys.push(key)?;
-    }
+    let keys = Walk::over(first, n, board)?.collect(heap)?;
     Ok(keys)
 }

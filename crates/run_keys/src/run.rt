@@ -105,6 +105,5 @@ impl From<AllocError> for RunError {
 pub fn keys_of_run(heap: Global, first: u32, n: u32, board: u32) -> Result<Vec<Key>, RunError>
     ensures { MatchResult result (λ v. Planned first n board v.items) (Unplanned first n board) }
 {
-    let keys = Walk::over(first, n, board)?.collect(heap)?;
-    Ok(keys)
+    Ok(Walk::over(first, n, board)?.collect(heap)?)
 }

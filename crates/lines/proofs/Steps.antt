@@ -1,15 +1,11 @@
 -- The lines of a text, one after another.
-use Rattle.std.proofs.Common.{◌≡◌, ℕ, zero, suc, ◌<◌, ◌≤◌, List, [], ◌∷◌, length, Some, None, Option, unwrap_or, refl, ap, arith}
+use Rattle.std.proofs.Common.{◌≡◌, ℕ, zero, suc, ◌+◌, ◌<◌, ◌≤◌, List, [], ◌∷◌, length, unwrap_or, refl, ap, arith, length-drop}
 use Rattle.lines.specs.Lines.{before, behind, lines_up_to, lines}
-use Rattle.lines.proofs.Cuts.{behind_end}
+use Rattle.lines.proofs.Cuts.{cut_behind}
 
 -- each line takes at least a byte
 pub rest_shorter : (bs : List ℕ) → 0 < length bs → length (unwrap_or (behind 10 bs) []) < length bs
-rest_shorter bs l = at (behind 10 bs) refl
-  where
-    at : (o : Option (List ℕ)) → behind 10 bs ≡ o → length (unwrap_or o []) < length bs
-    at None e = omega arith
-    at (Some r) e = (behind_end 10 bs r e).0
+rest_shorter bs l = omega (arith, ap length (cut_behind 10 bs), length-drop (length (before 10 bs) + 1) bs)
 
 enough : (n k : ℕ) (bs : List ℕ) → length bs ≤ n → length bs ≤ k → lines_up_to n bs ≡ lines_up_to k bs
 unfolding lines_up_to

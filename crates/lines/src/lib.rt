@@ -2,9 +2,9 @@
 
 #![tactic(auto)]
 
-ghost use Rattle.std.specs.Prelude.{◌≡◌, ◌-◌, [], length};
-ghost use Rattle.std.specs.Option.{option_map, unwrap_or};
-ghost use Rattle.lines.specs.Lines.{before, behind, NextLine, unread, number, fields};
+ghost use Rattle.std.specs.Prelude.{◌≡◌, ◌-◌, ◌==◌, position, length};
+ghost use Rattle.std.specs.Option.{option_map};
+ghost use Rattle.lines.specs.Lines.{before, behind, NextLine, unread, shaped, number, fields};
 ghost use Rattle.std.specs.Iterator.{at_most};
 
 /// A text cut at a byte: what stands before the first such byte, and what stands behind it, if it is there.
@@ -14,36 +14,32 @@ pub struct Parts<'a> {
     pub rest: Option<&'a [u8]>,
 }
 
+/// Where the first byte of a text that is `at` stands.
+fn place_of(text: &[u8], at: u8) -> Option<usize>
+    ensures { result ≡ position (λ c. c == «at») text.now }
+{
+    text.iter().position(|byte| *byte == at)
+}
+
 /// Cuts a text at the first byte that is `at`.
 pub fn cut(text: &[u8], at: u8) -> Parts<'_>
     ensures front { result.front.now ≡ before «at» text.now }
     ensures rest { option_map (λ x. x.now) result.rest ≡ behind «at» text.now }
 {
-    for i in 0..text.len() {
-        if text[i] == at {
-            return Parts {
-                front: &text[0..i],
-                rest: Some(&text[i + 1..]),
-            };
-        }
-    }
-    Parts {
-        front: text,
-        rest: None,
-    }
-}
-
-/// The length of a text that may be missing.
-fn length_of(text: Option<&[u8]>) -> usize
-    ensures { result ≡ length (unwrap_or (option_map (λ x. x.now) text.entry) []) }
-{
-    match text {
-        Some(bytes) => bytes.len(),
-        None => 0,
+    match place_of(text, at) {
+        Some(end) => Parts {
+            front: &text[..end],
+            rest: Some(&text[end + 1..]),
+        },
+        None => Parts {
+            front: text,
+            rest: None,
+        },
     }
 }
 
 /// Reads a text line by line: each line ends at a newline, and a last one may lack it.
+/// It borrows the text and walks it by a position: the project keeps this reader in that form.
 #[derive(Drop)]
 pub struct LineReader<'a> {
     input: &'a [u8],
@@ -70,34 +66,35 @@ impl<'a> Iterator for LineReader<'a> {
         if self.at >= self.input.len() {
             return None;
         }
-        let parts = cut(&self.input[self.at..], b'\n');
-        self.at = self.input.len() - length_of(parts.rest);
-        Some(parts.front)
+        let line = cut(&self.input[self.at..], b'\n').front;
+        self.at += line.len() + 1;
+        Some(line)
     }
 }
 
 /// A field has at most so many digits.
 const MOST_DIGITS: usize = 5;
 
-/// The digit that may not stand in front of others.
-const ZERO: u8 = b'0';
-
-/// The last digit.
-const NINE: u8 = b'9';
+/// Whether a field has one to five bytes, and no needless zero in front.
+fn is_shaped(field: &[u8]) -> bool
+    ensures { result ≡ shaped field.now }
+{
+    match field {
+        [] | [b'0', _, ..] => false,
+        _ => field.len() <= MOST_DIGITS,
+    }
+}
 
 /// The number that a decimal field of one to five digits stands for, if it has no needless zero in front.
 pub fn number_of(field: &[u8]) -> Option<u32>
     ensures { result ≡ number field.now }
 {
-    if field.is_empty() || field.len() > MOST_DIGITS {
-        return None;
-    }
-    if field.len() > 1 && field[0] == ZERO {
+    if !is_shaped(field) {
         return None;
     }
     let mut value = 0;
     for digit in field {
-        if *digit < b'0' || *digit > NINE {
+        if !digit.is_ascii_digit() {
             return None;
         }
         value = 10 * value + u32::from(*digit - b'0');
@@ -112,9 +109,9 @@ pub fn fields_of<const K: usize>(line: Option<&[u8]>) -> Option<[u32; K]>
 {
     let mut numbers = [0; K];
     let mut rest = line;
-    for i in 0..K {
+    for number in numbers.iter_mut() {
         let parts = cut(rest?, b' ');
-        numbers[i] = number_of(parts.front)?;
+        *number = number_of(parts.front)?;
         rest = parts.rest;
     }
     match rest {

@@ -1,5 +1,6 @@
 -- The lines of the console: what a line asks for, and what is printed for an answer.
-use Rattle.std.specs.Prelude.{ℕ, cond, List, [], ◌∷◌, ◌++◌, Some, None, codes, decimal, Option, ◌==◌, slice_index}
+use Rattle.std.specs.Prelude.{ℕ, cond, List, [], ◌∷◌, ◌++◌, None, codes, decimal, Option, ◌==◌, slice_index}
+use Rattle.std.specs.Option.{option_map}
 use Rattle.lines.specs.Lines.{before, behind, fields}
 use Rattle.commands.specs.declared.command.Command.{Command}
 use Rattle.commands.specs.declared.command.Command.TheVariants.{Assign, Clear, Find, Next, Keys}
@@ -10,24 +11,19 @@ use Rattle.commands.specs.declared.reply.Reply.TheVariants.{Granted, Refused, At
 
 -- the commands by their fields
 abbrev pub assign_command : Option (List ℕ) → Option Command
-assign_command None = None
-assign_command (Some ns) = Some (Assign (slice_index ns 0) (slice_index ns 1) (slice_index ns 2) (slice_index ns 3))
+assign_command = option_map (λ ns. Assign (slice_index ns 0) (slice_index ns 1) (slice_index ns 2) (slice_index ns 3))
 
 abbrev pub clear_command : Option (List ℕ) → Option Command
-clear_command None = None
-clear_command (Some ns) = Some (Clear (slice_index ns 0) (slice_index ns 1) (slice_index ns 2))
+clear_command = option_map (λ ns. Clear (slice_index ns 0) (slice_index ns 1) (slice_index ns 2))
 
 abbrev pub find_command : Option (List ℕ) → Option Command
-find_command None = None
-find_command (Some ns) = Some (Find (slice_index ns 0) (slice_index ns 1))
+find_command = option_map (λ ns. Find (slice_index ns 0) (slice_index ns 1))
 
 abbrev pub next_command : Option (List ℕ) → Option Command
-next_command None = None
-next_command (Some ns) = Some (Next (slice_index ns 0) (slice_index ns 1))
+next_command = option_map (λ ns. Next (slice_index ns 0) (slice_index ns 1))
 
 abbrev pub keys_command : Option (List ℕ) → Option Command
-keys_command None = None
-keys_command (Some ns) = Some Keys
+keys_command = option_map (λ ns. Keys)
 
 -- by its letter, a, c, f, n or k, a command has 4, 3, 2, 2 or no fields
 abbrev pub command_by_letter : ℕ → Option (List ℕ) → Option Command

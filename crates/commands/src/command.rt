@@ -2,8 +2,7 @@
 
 ghost use Rattle.std.specs.Prelude.{◌≡◌};
 ghost use Rattle.std.specs.Option.{option_map};
-ghost use Rattle.lines.specs.Lines.{fields};
-ghost use Rattle.commands.specs.Commands.{assign_command, clear_command, find_command, next_command, keys_command, command_by_letter, command_in};
+ghost use Rattle.commands.specs.Commands.{command_by_letter, command_in};
 
 use lines::{cut, fields_of};
 
@@ -37,76 +36,36 @@ pub enum Command {
     Keys,
 }
 
-fn assign_in(rest: Option<&[u8]>) -> Option<Command>
-    ensures { result ≡ assign_command (fields 4 (option_map (λ x. x.now) rest.entry)) }
-{
-    match fields_of::<4>(rest) {
-        Some(f) => Some(Command::Assign {
-            file: f[0],
-            first: f[1],
-            n: f[2],
-            board: f[3],
-        }),
-        None => None,
-    }
-}
-
-fn clear_in(rest: Option<&[u8]>) -> Option<Command>
-    ensures { result ≡ clear_command (fields 3 (option_map (λ x. x.now) rest.entry)) }
-{
-    match fields_of::<3>(rest) {
-        Some(f) => Some(Command::Clear {
-            file: f[0],
-            first: f[1],
-            n: f[2],
-        }),
-        None => None,
-    }
-}
-
-fn find_in(rest: Option<&[u8]>) -> Option<Command>
-    ensures { result ≡ find_command (fields 2 (option_map (λ x. x.now) rest.entry)) }
-{
-    match fields_of::<2>(rest) {
-        Some(f) => Some(Command::Find {
-            file: f[0],
-            block: f[1],
-        }),
-        None => None,
-    }
-}
-
-fn next_in(rest: Option<&[u8]>) -> Option<Command>
-    ensures { result ≡ next_command (fields 2 (option_map (λ x. x.now) rest.entry)) }
-{
-    match fields_of::<2>(rest) {
-        Some(f) => Some(Command::Next {
-            file: f[0],
-            block: f[1],
-        }),
-        None => None,
-    }
-}
-
-fn keys_in(rest: Option<&[u8]>) -> Option<Command>
-    ensures { result ≡ keys_command (fields 0 (option_map (λ x. x.now) rest.entry)) }
-{
-    match fields_of::<0>(rest) {
-        Some(_) => Some(Command::Keys),
-        None => None,
-    }
-}
-
 /// The command with this letter, by the fields behind it.
 fn by_letter(letter: char, rest: Option<&[u8]>) -> Option<Command>
     ensures { result ≡ command_by_letter letter (option_map (λ x. x.now) rest.entry) }
 {
     match letter {
-        'a' => assign_in(rest),
-        'c' => clear_in(rest),
-        'f' => find_in(rest),
-        'n' => next_in(rest),
-        'k' => keys_in(rest),
+        'a' => {
+            let [file, first, n, board] = fields_of::<4>(rest)?;
+            Some(Command::Assign {
+                file,
+                first,
+                n,
+                board,
+            })
+        }
+        'c' => {
+            let [file, first, n] = fields_of::<3>(rest)?;
+            Some(Command::Clear { file, first, n })
+        }
+        'f' => {
+            let [file, block] = fields_of::<2>(rest)?;
+            Some(Command::Find { file, block })
+        }
+        'n' => {
+            let [file, block] = fields_of::<2>(rest)?;
+            Some(Command::Next { file, block })
+        }
+        'k' => {
+            let [] = fields_of::<0>(rest)?;
+            Some(Command::Keys)
+        }
         _ => None,
     }
 }

@@ -5,4 +5,3 @@
 pub mod command;
 pub mod print;
 pub mod reply;
-pub mod text;

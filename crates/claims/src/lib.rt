@@ -15,18 +15,19 @@ use maps::Map;
 use pool::Pool;
 use walks::{board_of, gather};
 
+// A store lends its map and its pool, two fields of it, for each call, with the numbers as they came to it:
+// a struct of the loans or of the numbers would be made and taken apart at each call.
+
 /// The board number from which a new block looks for a free one, on a board of `size` blocks.
 fn goal_of<M: Map>(map: &mut M, size: u32, file: u32, block: u32) -> u32
-    ensures answer { M.Map.valid map.old → 0 < size → result ≡ goal size (M.Map.placed map.old file) block }
-    ensures map { M.Map.valid map.old → MapStays (M.Map.room map.old) (M.Map.placed map.old) (M.Map.room map.new) (M.Map.placed map.new) (M.Map.valid map.new) }
+    ensures answer { 0 < size → result ≡ goal size (M.Map.placed map.old file) block }
+    ensures map { MapStays (M.Map.room map.old) (M.Map.placed map.old) (M.Map.room map.new) (M.Map.placed map.new) }
 {
     if size == 0 || block == 0 {
         return 0;
     }
-    match board_of(map, file, block - 1) {
-        Some(number) => number.saturating_add(1) % size,
-        None => block % size,
-    }
+    let wanted = board_of(map, file, block - 1).map_or(block, |number| number + 1);
+    wanted % size
 }
 
 /// Takes a free board block for a block of a file and enters it as its place.
@@ -39,19 +40,12 @@ pub fn claim<M: Map>(
     file: u32,
     block: u32,
 ) -> Result<u32, StoreFault>
-    ensures kept { M.Map.valid map.old → M.Map.valid map.new }
-    ensures room { M.Map.valid map.old → M.Map.room map.new ≡ M.Map.room map.old }
-    ensures step { M.Map.valid map.old → ◌≡◌ {A = Claimed} (result, taken_in pool.new, M.Map.placed map.new) (claim_step M.Map.rule (M.Map.room map.old) size (taken_in pool.old) (M.Map.placed map.old) file block) }
+    ensures room { M.Map.room map.new ≡ M.Map.room map.old }
+    ensures step { ◌≡◌ {A = Claimed} (result, taken_in pool.new, M.Map.placed map.new) (claim_step M.Map.rule (M.Map.room map.old) size (taken_in pool.old) (M.Map.placed map.old) file block) }
 {
     let goal = goal_of(map, size, file, block);
-    let Some(token) = pool.take(goal, size) else {
-        return Err(StoreFault::Own(Fault {
-            ground: Ground::NoFreeBlock,
-            layer: Layer::Store,
-            file,
-            block,
-        }));
-    };
+    let full = StoreFault::Own(Layer::Store.refusal(Ground::NoFreeBlock, file, block));
+    let token = pool.take(goal, size).ok_or(full)?;
     let number = pool.settle(token.enter(map, file, block))?;
     Ok(number)
 }
@@ -66,9 +60,8 @@ pub fn vacate<M: Map>(
     first: u32,
     n: u32,
 ) -> Result<u32, Fault>
-    ensures kept { M.Map.valid map.old → M.Map.valid map.new }
-    ensures room { M.Map.valid map.old → M.Map.room map.new ≡ M.Map.room map.old }
-    ensures step { M.Map.valid map.old → ◌≡◌ {A = Vacated} (result, taken_in pool.new, M.Map.placed map.new) (vacate_step M.Map.rule (M.Map.room map.old) (taken_in pool.old) (M.Map.placed map.old) file first n) }
+    ensures room { M.Map.room map.new ≡ M.Map.room map.old }
+    ensures step { ◌≡◌ {A = Vacated} (result, taken_in pool.new, M.Map.placed map.new) (vacate_step M.Map.rule (M.Map.room map.old) (taken_in pool.old) (M.Map.placed map.old) file first n) }
 {
     let leaving = gather(map, file, first, first.saturating_add(n));
     map.clear(file, first, n)?;
@@ -78,9 +71,8 @@ pub fn vacate<M: Map>(
 
 /// Takes a whole file, of so many blocks, out of the map, gives its board blocks back, and tells how many these are.
 pub fn vacate_file<M: Map>(map: &mut M, pool: &mut Pool, file: u32, width: u32) -> u32
-    ensures kept { M.Map.valid map.old → M.Map.valid map.new }
-    ensures room { M.Map.valid map.old → M.Map.room map.new ≡ M.Map.room map.old }
-    ensures step { M.Map.valid map.old → ◌≡◌ {A = LeftFile} (result, taken_in pool.new, M.Map.placed map.new) (leave_file (taken_in pool.old) (M.Map.placed map.old) file width) }
+    ensures room { M.Map.room map.new ≡ M.Map.room map.old }
+    ensures step { ◌≡◌ {A = LeftFile} (result, taken_in pool.new, M.Map.placed map.new) (leave_file (taken_in pool.old) (M.Map.placed map.old) file width) }
 {
     let leaving = gather(map, file, 0, width);
     // The number of a file that is there is not refused.

@@ -24,7 +24,7 @@ module _ (rule : Placement → ℕ) (room : ℕ) (t : ℕ → Bool) (pl pl₁ q 
   stepped : ◌≡◌ {A = Outcome} (told, q) (unless_ground (ground_of_extent file first n) pl file first (if_room rule room pl left file first))
   stepped = step ∙ ap₂ (λ (k : ℕ) (w : Placement). clear_step rule k w file first n) er es
 
-  module _ (set : ℕ → Bool) (to number : ℕ) (u : Unit {0}) (granted : told ≡ Ok u) where
+  module _ (u : Unit {0}) (granted : told ≡ Ok u) where
     -- it had no ground to refuse it
     pub admitted : ground_of_extent file first n ≡ None
     admitted = go (ground_of_extent file first n) stepped
@@ -38,7 +38,7 @@ module _ (rule : Placement → ℕ) (room : ℕ) (t : ℕ → Bool) (pl pl₁ q 
     pub within : first + n ≤ 65536
     within = let e = admitted in grind (arith, nat_tests)
 
-    module _ (et : to ≡ first + n) (found : Gathers (pl file) first to set number) where
+    module _ (set : ℕ → Bool) (to number : ℕ) (et : to ≡ first + n) (found : Gathers (pl file) first to set number) where
       counted : number ≡ placed (pl file) (inside first n) (first + n)
       counted =
           let m : to - first ≡ n = omega arith in

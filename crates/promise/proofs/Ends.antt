@@ -7,7 +7,6 @@ use Rattle.ledger.specs.Sound.{New}
 use Rattle.ledger.specs.Store.{Shape, State, Ask, Told, outcome, final}
 use Rattle.ledger.proofs.Runs.{agree, books_on, sound_final}
 use Rattle.ledger.proofs.Steps.{sound_new}
-use Rattle.store.specs.Whole.{Whole}
 use Rattle.promise.specs.Ends.{End, Kept, Compared, after_own}
 
 -- A list that ran on a store of this shape and state.
@@ -21,11 +20,11 @@ moved : {sh sh'' sh' : Shape} {s s'' s' : State} {qs : List Ask} {ts : List Told
 moved {sh' = sh'} {s' = s'} {qs = qs} {ts = ts} e f r = subst₂ (λ (z : Shape) (y : State). Ran z y qs ts sh' s') e f r
 
 -- An end whose store began in this shape and state, ran its own list, and then the later one.
-pub kept : {e : End} {sh sh₁ : Shape} {s s₁ : State} {mv bv lv : Type 0}
+pub kept : {e : End} {sh sh₁ : Shape} {s s₁ : State}
     → sh ≡ e.shape → New sh s → s.board ≡ e.board → s.lower ≡ e.lower
     → Ran sh s e.own e.own_told sh₁ s₁ → Ran sh₁ s₁ e.later e.later_told e.shape_after e.state_after
-    → Whole mv bv lv e.shape_after e.state_after → Kept e mv bv lv
-kept {e} {s = s} shaped new board_bytes lower_bytes own later whole =
+    → Kept e
+kept {e} {s = s} shaped new board_bytes lower_bytes own later =
     let fresh : New e.shape s = subst (λ (z : Shape). New z s) shaped new in
     let a = moved shaped refl own in
     let b = moved a.shape a.after later in
@@ -41,11 +40,9 @@ kept {e} {s = s} shaped new board_bytes lower_bytes own later whole =
       left_ruled = b.after;
       book = subst (λ (low : Contents). TrueToBook e.shape low (e.own ++ e.later) (e.own_told ++ e.later_told) e.state_after.place) lower_bytes book;
       shape_stays = b.shape;
-      stays_valid = whole;
     }
 
-pub compared : {club server : End} {mv bv lv mv' bv' lv' : Type 0}
-    → Kept club mv bv lv → Kept server mv' bv' lv' → Compared club server mv bv lv mv' bv' lv'
+pub compared : {club server : End} → Kept club → Kept server → Compared club server
 compared {club} {server} k k' = record {
   at_club = k;
   at_server = k';

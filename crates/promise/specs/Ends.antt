@@ -4,7 +4,6 @@ use Rattle.blocks.specs.Blocks.{Contents}
 use Rattle.ledger.specs.Promise.{TrueToBook, Alike, Agree}
 use Rattle.ledger.specs.Sound.{New}
 use Rattle.ledger.specs.Store.{Shape, State, Ask, Told, outcome, final}
-use Rattle.store.specs.Whole.{Whole}
 
 -- One end, as it is seen from outside: what its store was made of, what it was asked, what it told, and the store that is handed back.
 pub record End : Type 0 where
@@ -35,7 +34,7 @@ abbrev pub after_own : End → State → State
 after_own e s = final e.shape s e.own
 
 -- What came is what the rules give, and is true to the book that a reader of the calls and answers keeps.
-pub record Kept (e : End) (map_valid board_valid lower_valid : Type 0) : Type 0 where
+pub record Kept (e : End) : Type 0 where
   pub began : State
   pub begins : Begins e began
   -- the answers and buffers, and the state that is left, are those of the rules
@@ -45,14 +44,13 @@ pub record Kept (e : End) (map_valid board_valid lower_valid : Type 0) : Type 0 
   -- granted reads show the book's bytes; a kept write is refused with 12 exactly if the board is full; blocks taken less blocks given back
   -- are the places in the book; these are below the board's size, no two alike, and held by the map that is handed back, which holds no others
   pub book : TrueToBook e.shape e.lower (e.own ++ e.later) (e.own_told ++ e.later_told) e.state_after.place
-  -- the store that is handed back has the shape that it was made with, and is valid
+  -- the store that is handed back has the shape that it was made with
   pub shape_stays : e.shape_after ≡ e.shape
-  pub stays_valid : Whole map_valid board_valid lower_valid e.shape_after e.state_after
 
 -- Two ends, each with calls of its own and then later ones.
-pub record Compared (club server : End) (map_valid board_valid lower_valid map_valid' board_valid' lower_valid' : Type 0) : Type 0 where
-  pub at_club : Kept club map_valid board_valid lower_valid
-  pub at_server : Kept server map_valid' board_valid' lower_valid'
+pub record Compared (club server : End) : Type 0 where
+  pub at_club : Kept club
+  pub at_server : Kept server
   -- If they were alike once their own calls had run, and the later calls ask the same of both, then they answer the same, refusals included,
   -- show the same bytes, and the stores that are handed back are alike again.
   pub agreement : Alike club.shape (after_own club at_club.began) server.shape (after_own server at_server.began)

@@ -2,21 +2,37 @@
 
 #![tactic(auto)]
 
-ghost use Rattle.pool.specs.Pool.{taken_in};
-ghost use Rattle.promise.specs.Ends.{Compared};
+ghost use Rattle.promise.specs.Ends.{Kept, Compared};
 ghost use Rattle.requests.specs.Requests.{asks, tells};
+ghost use Rattle.store.specs.Whole.{shaped};
 
 use boards::Board;
 use lowers::Lower;
 use maps::Map;
 use requests::{Request, run};
 use store::Store;
+use stores::BlockStore;
 
 /// What a store is made of.
 pub struct Parts<M, B, L> {
     pub map: M,
     pub board: B,
     pub lower: L,
+}
+
+/// Makes a new store over whatever parts there are, runs two lists of requests on it, one after the other, and hands the store back.
+fn serve_end<M: Map, B: Board, L: Lower>(
+    parts: Parts<M, B, L>,
+    own: &mut [Request],
+    later: &mut [Request],
+) -> Store<M, B, L>
+    ensures { Kept (record { shape = shaped M.Map.rule (M.Map.room parts.map) (B.Board.size parts.board) (L.Reading.files parts.lower) (L.Reading.width parts.lower); board = B.Board.block parts.board; lower = L.Reading.bytes parts.lower; own = asks own.old; later = asks later.old; own_told = tells own.new; later_told = tells later.new; shape_after = ⟦<Store<M, B, L> as BlockStore>⟧.shape result; state_after = ⟦<Store<M, B, L> as BlockStore>⟧.state result }) }
+{
+    let Parts { map, board, lower } = parts;
+    let mut store = Store::new(map, board, lower);
+    run(&mut store, own);
+    run(&mut store, later);
+    store
 }
 
 /// Makes two new stores, the club's and the server's, over whatever parts each has; runs each end's own requests, then the later ones on both,
@@ -32,15 +48,9 @@ pub fn compare<M: Map, B: Board, L: Lower, N: Map, C: Board, K: Lower>(
     server_own: &mut [Request],
     server_later: &mut [Request],
 ) -> (Store<M, B, L>, Store<N, C, K>)
-    ensures { M.Map.valid club.map → B.Board.valid club.board → L.Reading.valid club.lower → N.Map.valid server.map → C.Board.valid server.board → K.Reading.valid server.lower → Compared (record { shape = record { rule = M.Map.rule; keys = M.Map.room club.map; size = B.Board.size club.board; files = L.Reading.files club.lower; width = L.Reading.width club.lower }; board = B.Board.block club.board; lower = L.Reading.bytes club.lower; own = asks club_own.old; later = asks club_later.old; own_told = tells club_own.new; later_told = tells club_later.new; shape_after = record { rule = M.Map.rule; keys = M.Map.room result.0.map; size = B.Board.size result.0.board; files = L.Reading.files result.0.lower; width = L.Reading.width result.0.lower }; state_after = record { place = M.Map.placed result.0.map; taken = taken_in result.0.pool; board = B.Board.block result.0.board; lower = L.Reading.bytes result.0.lower } }) (record { shape = record { rule = N.Map.rule; keys = N.Map.room server.map; size = C.Board.size server.board; files = K.Reading.files server.lower; width = K.Reading.width server.lower }; board = C.Board.block server.board; lower = K.Reading.bytes server.lower; own = asks server_own.old; later = asks server_later.old; own_told = tells server_own.new; later_told = tells server_later.new; shape_after = record { rule = N.Map.rule; keys = N.Map.room result.1.map; size = C.Board.size result.1.board; files = K.Reading.files result.1.lower; width = K.Reading.width result.1.lower }; state_after = record { place = N.Map.placed result.1.map; taken = taken_in result.1.pool; board = C.Board.block result.1.board; lower = K.Reading.bytes result.1.lower } }) (M.Map.valid result.0.map) (B.Board.valid result.0.board) (L.Reading.valid result.0.lower) (N.Map.valid result.1.map) (C.Board.valid result.1.board) (K.Reading.valid result.1.lower) }
+    ensures { Compared (record { shape = shaped M.Map.rule (M.Map.room club.map) (B.Board.size club.board) (L.Reading.files club.lower) (L.Reading.width club.lower); board = B.Board.block club.board; lower = L.Reading.bytes club.lower; own = asks club_own.old; later = asks club_later.old; own_told = tells club_own.new; later_told = tells club_later.new; shape_after = ⟦<Store<M, B, L> as BlockStore>⟧.shape result.0; state_after = ⟦<Store<M, B, L> as BlockStore>⟧.state result.0 }) (record { shape = shaped N.Map.rule (N.Map.room server.map) (C.Board.size server.board) (K.Reading.files server.lower) (K.Reading.width server.lower); board = C.Board.block server.board; lower = K.Reading.bytes server.lower; own = asks server_own.old; later = asks server_later.old; own_told = tells server_own.new; later_told = tells server_later.new; shape_after = ⟦<Store<N, C, K> as BlockStore>⟧.shape result.1; state_after = ⟦<Store<N, C, K> as BlockStore>⟧.state result.1 }) }
 {
-    let Parts { map, board, lower } = club;
-    let mut at_club = Store::new(map, board, lower);
-    let Parts { map, board, lower } = server;
-    let mut at_server = Store::new(map, board, lower);
-    run(&mut at_club, club_own);
-    run(&mut at_server, server_own);
-    run(&mut at_club, club_later);
-    run(&mut at_server, server_later);
+    let at_club = serve_end(club, club_own, club_later);
+    let at_server = serve_end(server, server_own, server_later);
     (at_club, at_server)
 }

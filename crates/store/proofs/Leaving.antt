@@ -9,33 +9,34 @@ use Rattle.calls.specs.declared.StoreFault.TheVariants.{FromMap}
 use Rattle.blocks.specs.Blocks.{Placement, Contents, zero_block, inside, changed}
 use Rattle.maps.specs.Steps.{fault_of}
 use Rattle.lowers.specs.Lowers.{ground_of_extent, extent_answer, Changes, Holds}
-use Rattle.admission.specs.Admission.{Admission, ground_of_file}
+use Rattle.admission.specs.Admission.{ground_of_file}
 use Rattle.claims.specs.Leaves.{Vacated, leaving, vacate_step, LeftFile, leave_file}
 use Rattle.claims.proofs.Giving.{vacates_within}
 use Rattle.walks.specs.Walks.{BoardStays, Reaches, copied}
 use Rattle.walks.proofs.Places.{freed_extent, placed_extent}
-use Rattle.ledger.specs.Store.{Shape, State, map_full, overfull, if_granted, placed, freed, bad_clear, clears, clear_answer, cleared, after_clear, file_answer, removed, after_remove, demoted, after_demote}
+use Rattle.ledger.specs.Store.{unless, Shape, State, map_full, overfull, if_granted, placed, freed, bad_clear, clears, clear_answer, cleared, after_clear, file_answer, removed, after_remove, demoted, after_demote}
 use Rattle.ledger.proofs.Admits.{admitted_clear, clear_admitted, file_granted, is_below}
-use Rattle.store.specs.Whole.{Whole}
-use Rattle.store.proofs.Parts.{Did, did, shaped, stated, no_ground, by_ground, lower_changed, extent_granted}
+use Rattle.ledger.specs.Sound.{Sound}
+use Rattle.store.specs.Whole.{shaped, stated}
+use Rattle.store.proofs.Parts.{Did, did, no_ground, by_ground, lower_changed, extent_granted}
 
 -- ---- a clear
 
-module _ {sh : Shape} {s : State} (file first n : ℕ) {map board lower : Type 0} (v : Whole map board lower sh s) {r : Result (Unit {0}) StoreFault}
-    (adm : Admission sh.files sh.width (ground_of_extent sh.files sh.width file first n) file first r) where
+module _ {sh : Shape} {s : State} (file first n : ℕ) (v : Sound sh s) {r : Result (Unit {0}) StoreFault}
+    (adm : r ≡ unless (ground_of_extent sh.files sh.width file first n) file first (Ok tt)) where
   leaves_so : {w : Result ℕ StoreFault} {s' : State} → clear_answer sh s file first n ≡ w → s' ≡ if_granted w s (λ _. cleared sh s file first n) → s' ≡ after_clear sh s file first n
   leaves_so due e = e ∙ sym (ap (λ (x : Result ℕ StoreFault). if_granted x s (λ _. cleared sh s file first n)) due)
 
   -- one that its arguments do not admit
-  pub not_admitted : (f : StoreFault) → r ≡ Err f → Did (clear_answer sh s file first n) (Err f) sh sh (after_clear sh s file first n) s (Whole map board lower sh s)
+  pub not_admitted : (f : StoreFault) → r ≡ Err f → Did (clear_answer sh s file first n) (Err f) sh sh (after_clear sh s file first n) s
   not_admitted f e =
-      let due = by_ground (bad_clear sh file first n) file first f (clears sh s.place file first n) (sym adm.answers ∙ e) in
-      did (record { call = Clear file first n; sent = [] }) v (sym due) refl (leaves_so due refl) v.map_valid v.board_valid v.lower_valid
+      let due = by_ground (bad_clear sh file first n) file first f (clears sh s.place file first n) (sym adm ∙ e) in
+      did (record { call = Clear file first n; sent = [] }) v (sym due) refl (leaves_so due refl)
 
-module _ {sh : Shape} {s : State} (file first n : ℕ) {map board lower : Type 0} (v : Whole map board lower sh s) {r : Result (Unit {0}) StoreFault}
-    (adm : Admission sh.files sh.width (ground_of_extent sh.files sh.width file first n) file first r) (granted : r ≡ Ok tt) where
+module _ {sh : Shape} {s : State} (file first n : ℕ) (v : Sound sh s) {r : Result (Unit {0}) StoreFault}
+    (adm : r ≡ unless (ground_of_extent sh.files sh.width file first n) file first (Ok tt)) (granted : r ≡ Ok tt) where
   ad : bad_clear sh file first n ≡ None
-  ad = no_ground (bad_clear sh file first n) file first (sym adm.answers ∙ granted)
+  ad = no_ground (bad_clear sh file first n) file first (sym adm ∙ granted)
 
   bounds : (file < sh.files) × (first + n ≤ sh.width) × (0 < n) × (n ≤ 4096)
   bounds = admitted_clear sh file first n ad
@@ -48,11 +49,11 @@ module _ {sh : Shape} {s : State} (file first n : ℕ) {map board lower : Type 0
   freed_here = freed_extent s.taken (s.place file) first n (first + n) (omega arith)
       ∙ sym (freed_extent s.taken (s.place file) first n sh.width bounds.1)
 
-  module _ {map' : Type 0} {keys' : ℕ} {place' : Placement} {taken' : ℕ → Bool} {told : Result ℕ Fault} (ek : keys' ≡ sh.keys)
-      (step : ◌≡◌ {A = Vacated} (told, taken', place') (vacate_step sh.rule sh.keys s.taken s.place file first n)) (m : map') where
+  module _ {keys' : ℕ} {place' : Placement} {taken' : ℕ → Bool} {told : Result ℕ Fault} (few : sh.files ≤ 65536) (narrow : sh.width ≤ 65536) (ek : keys' ≡ sh.keys)
+      (step : ◌≡◌ {A = Vacated} (told, taken', place') (vacate_step sh.rule sh.keys s.taken s.place file first n)) where
     vacates : ◌≡◌ {A = Vacated} (told, taken', place') (leaving sh.rule sh.keys s.taken s.place left file first n)
     vacates = step ∙ vacates_within sh.rule sh.keys s.taken s.place file first n
-        (omega (arith, adm.few_files, bounds.0)) (omega (arith, adm.narrow, bounds.1)) bounds.2 bounds.3
+        (omega (arith, few, bounds.0)) (omega (arith, narrow, bounds.1)) bounds.2 bounds.3
 
     refusal : (f : Fault) → told ≡ Err f → (clears sh s.place file first n ≡ Err (FromMap f)) × (taken' ≡ s.taken) × (place' ≡ s.place)
     refusal f e = go (overfull sh left) vacates
@@ -84,69 +85,61 @@ module _ {sh : Shape} {s : State} (file first n : ℕ) {map board lower : Type 0
             (ap Ok (placed_extent (s.place file) first n sh.width bounds.1 ∙ z), ap (λ (x : Vacated). x.1) k ∙ freed_here, ap (λ (x : Vacated). x.2) k)
 
     pub keeps_all : (f : Fault) → told ≡ Err f
-        → Did (clear_answer sh s file first n) (Err (FromMap f)) sh (shaped sh keys' sh.size sh.files sh.width)
+        → Did (clear_answer sh s file first n) (Err (FromMap f)) sh (shaped sh.rule keys' sh.size sh.files sh.width)
         (after_clear sh s file first n) (stated place' taken' s.board s.lower)
-        (Whole map' board lower (shaped sh keys' sh.size sh.files sh.width) (stated place' taken' s.board s.lower))
     keeps_all f e =
         let h = refusal f e in
         let due = clear_admitted sh s file first n ad ∙ h.0 in
         did (record { call = Clear file first n; sent = [] }) v (sym due)
-        (λ i. shaped sh (ek i) sh.size sh.files sh.width) (leaves_so file first n v adm due (λ i. stated (h.2 i) (h.1 i) s.board s.lower))
-        m v.board_valid v.lower_valid
+        (λ i. shaped sh.rule (ek i) sh.size sh.files sh.width) (leaves_so file first n v adm due (λ i. stated (h.2 i) (h.1 i) s.board s.lower))
 
-    pub clears_all : {lower' : Type 0} {files' width' : ℕ} {bytes' : Contents} {answer : Result (Unit {0}) Fault} (count : ℕ) → told ≡ Ok count
-        → Changes sh.files sh.width s.lower file (inside first n) (λ _. zero_block) (extent_answer sh.files sh.width file first n) answer files' width' bytes' lower'
-        → Did (clear_answer sh s file first n) (Ok count) sh (shaped sh keys' sh.size files' width')
+    pub clears_all : {files' width' : ℕ} {bytes' : Contents} {answer : Result (Unit {0}) Fault} (count : ℕ) → told ≡ Ok count
+        → Changes sh.files sh.width s.lower file (inside first n) (λ _. zero_block) (extent_answer sh.files sh.width file first n) answer files' width' bytes'
+        → Did (clear_answer sh s file first n) (Ok count) sh (shaped sh.rule keys' sh.size files' width')
         (after_clear sh s file first n) (stated place' taken' s.board bytes')
-        (Whole map' board lower' (shaped sh keys' sh.size files' width') (stated place' taken' s.board bytes'))
     clears_all count e w =
         let h = grant count e in
         let due = clear_admitted sh s file first n ad ∙ h.0 in
         let el = lower_changed w (extent_granted sh.files sh.width file first n bounds.0 bounds.1 bounds.2 bounds.3) in
         did (record { call = Clear file first n; sent = [] }) v (sym due)
-        (λ i. shaped sh (ek i) sh.size (w.same_files i) (w.same_width i)) (leaves_so file first n v adm due (λ i. stated (h.2 i) (h.1 i) s.board (el i)))
-        m v.board_valid w.stays_valid
+        (λ i. shaped sh.rule (ek i) sh.size (w.same_files i) (w.same_width i)) (leaves_so file first n v adm due (λ i. stated (h.2 i) (h.1 i) s.board (el i)))
 
 -- ---- a whole file
 
-module _ {sh : Shape} {s : State} (file : ℕ) {map board lower : Type 0} (v : Whole map board lower sh s) {r : Result (Unit {0}) StoreFault}
-    (adm : Admission sh.files sh.width (ground_of_file sh.files file) file 0 r) (granted : r ≡ Ok tt) where
+module _ {sh : Shape} {s : State} (file : ℕ) (v : Sound sh s) {r : Result (Unit {0}) StoreFault}
+    (adm : r ≡ unless (ground_of_file sh.files file) file 0 (Ok tt)) (granted : r ≡ Ok tt) where
   within : file < sh.files
-  within = is_below file sh.files (ground_free (not (ltb file sh.files)) (no_ground (ground_of_file sh.files file) file 0 (sym adm.answers ∙ granted)))
+  within = is_below file sh.files (ground_free (not (ltb file sh.files)) (no_ground (ground_of_file sh.files file) file 0 (sym adm ∙ granted)))
     where
       ground_free : (b : Bool) → ◌≡◌ {A = Option Ground} (cond b (Some File) None) None → b ≡ false
       ground_free false e = refl
       ground_free true e = let z : ◌≡◌ {A = ℕ} 0 1 = cc in absurd (omega arith)
 
   pub in_reach : Reaches (s.place file) sh.width sh.size
-  in_reach b p e = let w = v.in_step.within file b p e in (w.1, w.2)
+  in_reach b p e = let w = v.within file b p e in (w.1, w.2)
 
   pub in_files : file < sh.files
   in_files = within
 
   -- its places go, with a lower store that is left so
-  module _ {map' : Type 0} {width₁ keys' told : ℕ} {place' place₁ : Placement} {taken' : ℕ → Bool} (ek : keys' ≡ sh.keys) (ep : place₁ ≡ s.place) (ew : width₁ ≡ sh.width)
-      (step : ◌≡◌ {A = LeftFile} (told, taken', place') (leave_file s.taken place₁ file width₁)) (m : map') where
+  module _ {width₁ keys' told : ℕ} {place' place₁ : Placement} {taken' : ℕ → Bool} (ek : keys' ≡ sh.keys) (ep : place₁ ≡ s.place) (ew : width₁ ≡ sh.width)
+      (step : ◌≡◌ {A = LeftFile} (told, taken', place') (leave_file s.taken place₁ file width₁)) where
     left_file : ◌≡◌ {A = LeftFile} (told, taken', place') (leave_file s.taken s.place file sh.width)
     left_file = step ∙ (λ i. leave_file s.taken (ep i) file (ew i))
 
     due : file_answer sh s file ≡ Ok told
     due = file_granted sh s file within ∙ ap Ok (sym (ap (λ (x : LeftFile). x.0) left_file))
 
-    pub removes : {lower' : Type 0} {files' width' : ℕ} {bytes' : Contents}
-        → Holds sh.files sh.width (changed s.lower file (inside 0 sh.width) (λ _. zero_block)) files' width' bytes' lower'
-        → Did (file_answer sh s file) (Ok told) sh (shaped sh keys' sh.size files' width') (after_remove sh s file) (stated place' taken' s.board bytes')
-        (Whole map' board lower' (shaped sh keys' sh.size files' width') (stated place' taken' s.board bytes'))
+    pub removes : {files' width' : ℕ} {bytes' : Contents}
+        → Holds sh.files sh.width (changed s.lower file (inside 0 sh.width) (λ _. zero_block)) files' width' bytes'
+        → Did (file_answer sh s file) (Ok told) sh (shaped sh.rule keys' sh.size files' width') (after_remove sh s file) (stated place' taken' s.board bytes')
     removes w = did (record { call = Remove file; sent = [] }) v (sym due)
-        (λ i. shaped sh (ek i) sh.size (w.same_files i) (w.same_width i))
+        (λ i. shaped sh.rule (ek i) sh.size (w.same_files i) (w.same_width i))
         ((λ i. stated (left_file i).2 (left_file i).1 s.board (w.same_bytes i)) ∙ sym (ap (λ (x : Result ℕ StoreFault). if_granted x s (λ _. removed sh s file)) due))
-        m v.board_valid w.stays_valid
 
-    pub demotes : {board' lower' : Type 0} {size' files' width' : ℕ} {blocks' : ℕ → List ℕ} {bytes' : Contents}
-        → BoardStays sh.size s.board size' blocks' board' → Holds sh.files sh.width (copied s.board (s.place file) file s.lower) files' width' bytes' lower'
-        → Did (file_answer sh s file) (Ok told) sh (shaped sh keys' size' files' width') (after_demote sh s file) (stated place' taken' blocks' bytes')
-        (Whole map' board' lower' (shaped sh keys' size' files' width') (stated place' taken' blocks' bytes'))
+    pub demotes : {size' files' width' : ℕ} {blocks' : ℕ → List ℕ} {bytes' : Contents}
+        → BoardStays sh.size s.board size' blocks' → Holds sh.files sh.width (copied s.board (s.place file) file s.lower) files' width' bytes'
+        → Did (file_answer sh s file) (Ok told) sh (shaped sh.rule keys' size' files' width') (after_demote sh s file) (stated place' taken' blocks' bytes')
     demotes b w = did (record { call = Demote file; sent = [] }) v (sym due)
-        (λ i. shaped sh (ek i) (b.same_size i) (w.same_files i) (w.same_width i))
+        (λ i. shaped sh.rule (ek i) (b.same_size i) (w.same_files i) (w.same_width i))
         ((λ i. stated (left_file i).2 (left_file i).1 (b.same_block i) (w.same_bytes i)) ∙ sym (ap (λ (x : Result ℕ StoreFault). if_granted x s (λ _. demoted sh s file)) due))
-        m b.stays_valid w.stays_valid

@@ -11,10 +11,8 @@ use Rattle.lowers.specs.Lowers.{block_answer, extent_answer, CopiesOut, Changes}
 use Rattle.ledger.specs.Sound.{Sound, New}
 use Rattle.ledger.specs.Store.{Shape, State, Ask, put, own, unless, next}
 use Rattle.ledger.proofs.Calls.{keeps}
-use Rattle.ledger.proofs.Steps.{sound_new}
 use Rattle.maps.specs.Steps.{nowhere}
 use Rattle.pool.specs.Pool.{none_taken}
-use Rattle.store.specs.Whole.{Whole, Made}
 
 -- ---- the arguments
 
@@ -31,28 +29,28 @@ by_ground (Some g) file block f r e = let z : ◌≡◌ {A = StoreFault} (own g 
 
 -- ---- the board
 
-pub board_replaced : {size : ℕ} {block : ℕ → List ℕ} {number : ℕ} {buffer : List ℕ} {answer : Result (Unit {0}) Fault} {size' : ℕ} {block' : ℕ → List ℕ} {ok : Type 0}
-    → ReplacesBlock size block number buffer answer size' block' ok → number < size → length buffer ≡ 4096 → block' ≡ put block number buffer
+pub board_replaced : {size : ℕ} {block : ℕ → List ℕ} {number : ℕ} {buffer : List ℕ} {answer : Result (Unit {0}) Fault} {size' : ℕ} {block' : ℕ → List ℕ}
+    → ReplacesBlock size block number buffer answer size' block' → number < size → length buffer ≡ 4096 → block' ≡ put block number buffer
 board_replaced {size} {block} {number} {buffer} w l e =
     let granted : board_answer size number (length buffer) ≡ Ok tt = grind (arith, nat_tests) in
     w.replaces ∙ cond-true _ _ _ (ap is_ok (w.answers ∙ granted))
 
-pub board_shown : {size : ℕ} {block : ℕ → List ℕ} {number : ℕ} {buffer : List ℕ} {answer : Result (Unit {0}) Fault} {buffer' : List ℕ} {size' : ℕ} {block' : ℕ → List ℕ} {ok : Type 0}
-    → ReadsBlock size block number buffer answer buffer' size' block' ok → number < size → length buffer ≡ 4096 → buffer' ≡ block number
+pub board_shown : {size : ℕ} {block : ℕ → List ℕ} {number : ℕ} {buffer : List ℕ} {answer : Result (Unit {0}) Fault} {buffer' : List ℕ} {size' : ℕ} {block' : ℕ → List ℕ}
+    → ReadsBlock size block number buffer answer buffer' size' block' → number < size → length buffer ≡ 4096 → buffer' ≡ block number
 board_shown {size} {block} {number} {buffer} w l e =
     let granted : board_answer size number (length buffer) ≡ Ok tt = grind (arith, nat_tests) in
     w.copies ∙ cond-true _ _ _ (ap is_ok (w.answers ∙ granted))
 
 -- ---- the lower store
 
-pub lower_shown : {files width : ℕ} {bytes : Contents} {file block : ℕ} {buffer : List ℕ} {answer : Result (Unit {0}) Fault} {buffer' : List ℕ} {files' width' : ℕ} {bytes' : Contents} {ok : Type 0}
-    → CopiesOut files width bytes file block buffer answer buffer' files' width' bytes' ok → file < files → block < width → length buffer ≡ 4096 → buffer' ≡ bytes file block
+pub lower_shown : {files width : ℕ} {bytes : Contents} {file block : ℕ} {buffer : List ℕ} {answer : Result (Unit {0}) Fault} {buffer' : List ℕ} {files' width' : ℕ} {bytes' : Contents}
+    → CopiesOut files width bytes file block buffer answer buffer' files' width' bytes' → file < files → block < width → length buffer ≡ 4096 → buffer' ≡ bytes file block
 lower_shown {files} {width} {bytes} {file} {block} {buffer} w f b e =
     let granted : block_answer files width file block (length buffer) ≡ Ok tt = grind (arith, nat_tests) in
     w.copies ∙ cond-true _ _ _ (ap is_ok (w.answers ∙ granted))
 
-pub lower_changed : {files width : ℕ} {bytes : Contents} {file : ℕ} {chosen : ℕ → Bool} {new : ℕ → List ℕ} {due answer : Result (Unit {0}) Fault} {files' width' : ℕ} {bytes' : Contents} {ok : Type 0}
-    → Changes files width bytes file chosen new due answer files' width' bytes' ok → due ≡ Ok tt → bytes' ≡ changed bytes file chosen new
+pub lower_changed : {files width : ℕ} {bytes : Contents} {file : ℕ} {chosen : ℕ → Bool} {new : ℕ → List ℕ} {due answer : Result (Unit {0}) Fault} {files' width' : ℕ} {bytes' : Contents}
+    → Changes files width bytes file chosen new due answer files' width' bytes' → due ≡ Ok tt → bytes' ≡ changed bytes file chosen new
 lower_changed w e = w.makes ∙ cond-true _ _ _ (ap is_ok (w.answers ∙ e))
 
 pub block_granted : (files width file block len : ℕ) → file < files → block < width → len ≡ 4096 → block_answer files width file block len ≡ Ok tt
@@ -64,50 +62,30 @@ extent_granted files width file first n f b z l = grind (arith, nat_tests)
 -- ---- a call of the store
 
 -- What a call answers, and what it leaves.
-pub record Did {R : Type 0} (due answer : R) (sh sh' : Shape) (want s' : State) (ok : Type 0) : Type 0 where
+pub record Did {R : Type 0} (due answer : R) (sh sh' : Shape) (want s' : State) : Type 0 where
   pub answers : answer ≡ due
   pub leaves : s' ≡ want
   pub same_shape : sh' ≡ sh
-  pub stays_valid : ok
+  pub in_step : Sound sh' s'
 
-pub did : {R map board lower map' board' lower' : Type 0} {sh : Shape} {s : State} (q : Ask) {due answer : R} {sh' : Shape} {s' : State}
-    → Whole map board lower sh s → answer ≡ due → sh' ≡ sh → s' ≡ next sh s q → map' → board' → lower'
-    → Did due answer sh sh' (next sh s q) s' (Whole map' board' lower' sh' s')
-did {sh = sh} {s = s} q v a e h m b l = record {
+pub did : {R : Type 0} {sh : Shape} {s : State} (q : Ask) {due answer : R} {sh' : Shape} {s' : State}
+    → Sound sh s → answer ≡ due → sh' ≡ sh → s' ≡ next sh s q → Did due answer sh sh' (next sh s q) s'
+did {sh = sh} {s = s} q v a e h = record {
   answers = a;
   leaves = h;
   same_shape = e;
-  stays_valid = record { map_valid = m; board_valid = b; lower_valid = l; in_step = subst₂ Sound (sym e) (sym h) (keeps sh s v.in_step q).sound };
+  in_step = subst₂ Sound (sym e) (sym h) (keeps sh s v q).sound;
 }
 
 -- A call's clauses, one by one.
-pub clauses : {R V : Type 0} {due told : R} {sh sh' : Shape} {want s' : State} {ok : Type 0} → (V → Did due told sh sh' want s' ok)
-    → record { kept : V → ok; shape : V → sh' ≡ sh; answer : V → told ≡ due; after : V → s' ≡ want }
-clauses d = record { kept = λ v. (d v).stays_valid; shape = λ v. (d v).same_shape; answer = λ v. (d v).answers; after = λ v. (d v).leaves }
-
--- the parts of a store that a call may change
-abbrev pub shaped : Shape → ℕ → ℕ → ℕ → ℕ → Shape
-shaped sh keys size files width = record { rule = sh.rule; keys = keys; size = size; files = files; width = width }
-
-abbrev pub stated : Placement → (ℕ → Bool) → (ℕ → List ℕ) → Contents → State
-stated place taken board lower = record { place = place; taken = taken; board = board; lower = lower }
+pub clauses : {R : Type 0} {due told : R} {sh sh' : Shape} {want s' : State} → Did due told sh sh' want s'
+    → record { shape : sh' ≡ sh; answer : told ≡ due; after : s' ≡ want }
+clauses d = record { shape = d.same_shape; answer = d.answers; after = d.leaves }
 
 -- ---- a new store
 
-pub made : {map board lower : Type 0} {rule : Placement → ℕ} {room room' size files width : ℕ} {place : Placement} {taken : ℕ → Bool} {blocks : ℕ → List ℕ} {bytes : Contents}
-    → room' ≡ room → place ≡ nowhere → taken ≡ none_taken → map → board → lower
-    → Made rule room size blocks files width bytes (record { rule = rule; keys = room'; size = size; files = files; width = width }) (stated place taken blocks bytes)
-    (Whole map board lower (record { rule = rule; keys = room'; size = size; files = files; width = width }) (stated place taken blocks bytes))
-made {rule = rule} {room' = room'} {size = size} {files = files} {width = width} {place = place} {taken = taken} {blocks = blocks} {bytes = bytes} ek ep et m b l =
-    let sh : Shape = record { rule = rule; keys = room'; size = size; files = files; width = width } in
-    let new : New sh (stated place taken blocks bytes) = record {
-      unplaced = λ f b. ap (λ (pl : Placement). pl f b) ep;
-      untaken = λ p _. ap (λ (t : ℕ → Bool). t p) et;
-    } in
-    record {
-      shape = λ i. record { rule = rule; keys = ek i; size = size; files = files; width = width };
-      board_bytes = refl;
-      lower_bytes = refl;
-      new = new;
-      valid = record { map_valid = m; board_valid = b; lower_valid = l; in_step = sound_new sh (stated place taken blocks bytes) new };
-    }
+pub fresh : {sh : Shape} {s : State} → s.place ≡ nowhere → s.taken ≡ none_taken → New sh s
+fresh ep et = record {
+  unplaced = λ f b. ap (λ (pl : Placement). pl f b) ep;
+  untaken = λ p _. ap (λ (t : ℕ → Bool). t p) et;
+}

@@ -15,7 +15,8 @@ use Rattle.ledger.specs.Store.{Shape, State, bytes_at, shown, if_granted, as_any
 use Rattle.ledger.proofs.Admits.{admits_write, admits_clear, write_replaces, write_lower, file_granted, clear_granted}
 use Rattle.ledger.proofs.Calls.{book_of, keeps}
 use Rattle.lowers.specs.Lowers.{block_answer, extent_answer, Changes}
-use Rattle.store.specs.Whole.{Whole}
+use Rattle.ledger.specs.Sound.{Sound}
+use Rattle.store.specs.Whole.{shaped, stated}
 
 -- an answer that is no refusal
 granted : {X : Type 0} (r : Result X StoreFault) → is_err r ≡ false → (x : X) × (r ≡ Ok x)
@@ -103,34 +104,24 @@ admitted_block files width file block len e = (grind (arith, nat_tests), grind (
 admitted_extent : (files width file first n : ℕ) → extent_answer files width file first n ≡ Ok tt → (file < files) × (first + n ≤ width) × (0 < n) × (n ≤ 4096)
 admitted_extent files width file first n e = (grind (arith, nat_tests), grind (arith, nat_tests), grind (arith, nat_tests), grind (arith, nat_tests))
 
--- every block that is shown has 4,096 bytes
-pub shown_full : {sh : Shape} {s : State} {map board lower : Type 0} → Whole map board lower sh s → ((i : ℕ) → i < sh.size → length (s.board i) ≡ 4096)
-    → ((f b : ℕ) → f < sh.files → b < sh.width → length (s.lower f b) ≡ 4096) → (f b : ℕ) → f < sh.files → b < sh.width → length (shown s f b) ≡ 4096
-shown_full {sh = sh} {s = s} v boards lowers f b lf lb = go (s.place f b) refl
-  where
-    go : (o : Option ℕ) → s.place f b ≡ o → length (bytes_at s.board (s.lower f b) o) ≡ 4096
-    go (Some p) e = boards p (v.in_step.within f b p e).2
-    go None e = lowers f b lf lb
-
-module _ {sh : Shape} {s : State} (file block : ℕ) (bytes : List ℕ) {map board lower : Type 0} (v : Whole map board lower sh s)
+module _ {sh : Shape} {s : State} (file block : ℕ) (bytes : List ℕ) (v : Sound sh s)
     (adm : block_answer sh.files sh.width file block (length bytes) ≡ Ok tt) {sh₁ : Shape} {s₁ : State} {r : Result Written StoreFault} (e₁ : sh₁ ≡ sh)
     (due : r ≡ write_answer sh s file block 1 (length bytes)) (after : s₁ ≡ after_write sh s file block 1 bytes) where
   -- what is kept is there
-  pub keeps_it : {ok : Type 0} → is_err r ≡ false → ok
-      → Changes sh.files sh.width (shown s) file (only block) (λ _. bytes) (block_answer sh.files sh.width file block (length bytes)) (Ok tt) sh₁.files sh₁.width (shown s₁) ok
-  keeps_it e ok = record {
+  pub keeps_it : is_err r ≡ false
+      → Changes sh.files sh.width (shown s) file (only block) (λ _. bytes) (block_answer sh.files sh.width file block (length bytes)) (Ok tt) sh₁.files sh₁.width (shown s₁)
+  keeps_it e = record {
     answers = sym adm;
     same_files = ap (λ (x : Shape). x.files) e₁;
     same_width = ap (λ (x : Shape). x.width) e₁;
-    makes = written_shown sh s v.in_step file block 1 bytes r due after e;
-    stays_valid = ok;
+    makes = written_shown sh s v file block 1 bytes r due after e;
   }
 
   -- and what is not kept is written loose
-  pub falls_back : {map₁ board₁ lower₁ ok : Type 0} → Whole map₁ board₁ lower₁ sh₁ s₁ → is_err r ≡ true → {sh₂ : Shape} {s₂ : State} {r₂ : Result Written StoreFault} → sh₂ ≡ sh₁
-      → r₂ ≡ write_answer sh₁ s₁ file block 0 (length bytes) → s₂ ≡ after_write sh₁ s₁ file block 0 bytes → ok
-      → Changes sh.files sh.width (shown s) file (only block) (λ _. bytes) (block_answer sh.files sh.width file block (length bytes)) (Ok tt) sh₂.files sh₂.width (shown s₂) ok
-  falls_back v₁ e {r₂ = r₂} e₂ due₂ after₂ ok =
+  pub falls_back : Sound sh₁ s₁ → is_err r ≡ true → {sh₂ : Shape} {s₂ : State} {r₂ : Result Written StoreFault} → sh₂ ≡ sh₁
+      → r₂ ≡ write_answer sh₁ s₁ file block 0 (length bytes) → s₂ ≡ after_write sh₁ s₁ file block 0 bytes
+      → Changes sh.files sh.width (shown s) file (only block) (λ _. bytes) (block_answer sh.files sh.width file block (length bytes)) (Ok tt) sh₂.files sh₂.width (shown s₂)
+  falls_back v₁ e {r₂ = r₂} e₂ due₂ after₂ =
       let a = admitted_block sh.files sh.width file block (length bytes) adm in
       let lf : file < sh₁.files = omega (arith, a.0, ap (λ (x : Shape). x.files) e₁) in
       let lb : block < sh₁.width = omega (arith, a.1, ap (λ (x : Shape). x.width) e₁) in
@@ -138,36 +129,34 @@ module _ {sh : Shape} {s : State} (file block : ℕ) (bytes : List ℕ) {map boa
         answers = sym adm;
         same_files = ap (λ (x : Shape). x.files) (e₂ ∙ e₁);
         same_width = ap (λ (x : Shape). x.width) (e₂ ∙ e₁);
-        makes = written_shown sh₁ s₁ v₁.in_step file block 0 bytes r₂ due₂ after₂ (ap is_err due₂ ∙ loose_granted sh₁ s₁ v₁.in_step file block bytes lf lb a.2)
-            ∙ ap (λ (x : State). changed (shown x) file (only block) (λ _. bytes)) (write_refused sh s v.in_step file block 1 bytes r due after e);
-        stays_valid = ok;
+        makes = written_shown sh₁ s₁ v₁ file block 0 bytes r₂ due₂ after₂ (ap is_err due₂ ∙ loose_granted sh₁ s₁ v₁ file block bytes lf lb a.2)
+            ∙ ap (λ (x : State). changed (shown x) file (only block) (λ _. bytes)) (write_refused sh s v file block 1 bytes r due after e);
       }
 
-module _ {sh : Shape} {s : State} (file first n : ℕ) {map board lower : Type 0} (v : Whole map board lower sh s)
+module _ {sh : Shape} {s : State} (file first n : ℕ) (v : Sound sh s)
     (adm : extent_answer sh.files sh.width file first n ≡ Ok tt) {sh₁ : Shape} {s₁ : State} {r : Result ℕ StoreFault} (e₁ : sh₁ ≡ sh)
     (due : r ≡ clear_answer sh s file first n) (after : s₁ ≡ after_clear sh s file first n) where
-  pub clears_it : {ok : Type 0} → is_err r ≡ false → ok
-      → Changes sh.files sh.width (shown s) file (inside first n) (λ _. zero_block) (extent_answer sh.files sh.width file first n) (Ok tt) sh₁.files sh₁.width (shown s₁) ok
-  clears_it e ok = record {
+  pub clears_it : is_err r ≡ false
+      → Changes sh.files sh.width (shown s) file (inside first n) (λ _. zero_block) (extent_answer sh.files sh.width file first n) (Ok tt) sh₁.files sh₁.width (shown s₁)
+  clears_it e = record {
     answers = sym adm;
     same_files = ap (λ (x : Shape). x.files) e₁;
     same_width = ap (λ (x : Shape). x.width) e₁;
-    makes = cleared_shown sh s v.in_step file first n r due after e;
-    stays_valid = ok;
+    makes = cleared_shown sh s v file first n r due after e;
   }
 
   -- a clear that the map refused is granted once the file is off the board
-  pub clears_demoted : {ok : Type 0} → is_err r ≡ true → {sh₂ sh₃ : Shape} {s₂ s₃ : State} {r₃ : Result ℕ StoreFault} → sh₂ ≡ sh₁ → sh₃ ≡ sh₂
+  pub clears_demoted : is_err r ≡ true → {sh₂ sh₃ : Shape} {s₂ s₃ : State} {r₃ : Result ℕ StoreFault} → sh₂ ≡ sh₁ → sh₃ ≡ sh₂
       → Sound sh₁ s₁ → s₂ ≡ after_demote sh₁ s₁ file → Sound sh₂ s₂ → r₃ ≡ clear_answer sh₂ s₂ file first n → s₃ ≡ after_clear sh₂ s₂ file first n
-      → sh.rule (forgotten s.place file) ≤ sh.rule s.place → sh.rule s.place ≤ sh.keys → ok
-      → Changes sh.files sh.width (shown s) file (inside first n) (λ _. zero_block) (extent_answer sh.files sh.width file first n) (Ok tt) sh₃.files sh₃.width (shown s₃) ok
-  clears_demoted e {sh₂} {sh₃} {s₂} {s₃} {r₃} e₂ e₃ ok₁ after₂ ok₂ due₃ after₃ lighter roomy ok =
+      → sh.rule (forgotten s.place file) ≤ sh.rule s.place → sh.rule s.place ≤ sh.keys
+      → Changes sh.files sh.width (shown s) file (inside first n) (λ _. zero_block) (extent_answer sh.files sh.width file first n) (Ok tt) sh₃.files sh₃.width (shown s₃)
+  clears_demoted e {sh₂} {sh₃} {s₂} {s₃} {r₃} e₂ e₃ ok₁ after₂ ok₂ due₃ after₃ lighter roomy =
       let a = admitted_extent sh.files sh.width file first n adm in
       let f₁ = ap (λ (x : Shape). x.files) e₁ in
       let f₂ = ap (λ (x : Shape). x.files) (e₂ ∙ e₁) in
       let w₂ = ap (λ (x : Shape). x.width) (e₂ ∙ e₁) in
       let there : file < sh₁.files = omega (arith, a.0, f₁) in
-      let same = clear_refused sh s v.in_step file first n r due after e in
+      let same = clear_refused sh s v file first n r due after e in
       let place : s₂.place ≡ forgotten s.place file = demoted_place sh₁ s₁ ok₁ file there after₂ ∙ ap (λ (x : State). forgotten x.place file) same in
       let rule₂ : sh₂.rule (forgotten s.place file) ≤ sh₂.rule s.place =
       omega (arith, lighter, ap (λ (x : Shape). x.rule (forgotten s.place file)) (e₂ ∙ e₁), ap (λ (x : Shape). x.rule s.place) (e₂ ∙ e₁)) in
@@ -179,5 +168,4 @@ module _ {sh : Shape} {s : State} (file first n : ℕ) {map board lower : Type 0
         same_width = ap (λ (x : Shape). x.width) (e₃ ∙ (e₂ ∙ e₁));
         makes = cleared_shown sh₂ s₂ ok₂ file first n r₃ due₃ after₃ (ap is_err due₃ ∙ granted)
             ∙ ap (λ (x : Contents). changed x file (inside first n) (λ _. zero_block)) (demoted_shown sh₁ s₁ ok₁ file there after₂ ∙ ap shown same);
-        stays_valid = ok;
       }

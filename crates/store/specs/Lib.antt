@@ -1,1 +1,3 @@
 pub mod Whole
+pub mod Full
+pub mod InStep

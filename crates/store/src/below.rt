@@ -2,7 +2,8 @@
 
 ghost use Rattle.ledger.specs.Store.{shown};
 ghost use Rattle.pool.specs.Pool.{taken_in};
-ghost use Rattle.store.specs.Whole.{Whole};
+ghost use Rattle.store.specs.Whole.{stated};
+ghost use Rattle.store.specs.Full.{shown_full};
 
 use crate::Store;
 use boards::Board;
@@ -13,20 +14,23 @@ use stores::BlockStore;
 
 /// The bytes of a store's blocks are those that a read shows.
 impl<M: Map, B: Board, L: Lower> Reading for Store<M, B, L> {
-    ghost valid = { λ s. Whole (M.Map.valid s.map) (B.Board.valid s.board) (L.Reading.valid s.lower) (record { rule = M.Map.rule; keys = M.Map.room s.map; size = B.Board.size s.board; files = L.Reading.files s.lower; width = L.Reading.width s.lower }) (record { place = M.Map.placed s.map; taken = taken_in s.pool; board = B.Board.block s.board; lower = L.Reading.bytes s.lower }) };
-
     ghost files = { λ s. L.Reading.files s.lower };
 
     ghost width = { λ s. L.Reading.width s.lower };
 
-    ghost bytes = { λ s. shown (record { place = M.Map.placed s.map; taken = taken_in s.pool; board = B.Board.block s.board; lower = L.Reading.bytes s.lower }) };
+    ghost bytes = { λ s. shown (stated (M.Map.placed s.map) (taken_in s.pool) (B.Board.block s.board) (L.Reading.bytes s.lower)) };
+
+    ghost few = { λ s. L.Reading.few s.lower };
+
+    ghost narrow = { λ s. L.Reading.narrow s.lower };
+
+    ghost full = { λ s. shown_full s.in_step (B.Board.full s.board) (L.Reading.full s.lower) };
 
     fn files(&self) -> u32 {
         self.lower.files()
     }
 
     fn width(&self) -> u32 {
-        let _ = self.board.blocks();
         self.lower.width()
     }
 

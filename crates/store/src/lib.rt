@@ -6,8 +6,9 @@ mod below;
 
 ghost use Rattle.std.specs.Prelude.{◌≡◌};
 ghost use Rattle.pool.specs.Pool.{taken_in};
-ghost use Rattle.store.specs.Whole.{Whole, Made};
-ghost use Rattle.std.proofs.Common.{rules};
+ghost use Rattle.ledger.specs.Sound.{Sound};
+ghost use Rattle.store.specs.InStep.{sound_prop};
+ghost use Rattle.store.specs.Whole.{shaped, stated, Made};
 
 use admission::{admit_clear, admit_file, admit_read, admit_write};
 use boards::Board;
@@ -22,17 +23,18 @@ use walks::{board_of, clear_file, copy_down};
 /// A store of blocks: a map says which of them lie on the board, a pool which board blocks are taken,
 /// and all others lie in the lower store.
 #[derive(Drop)]
-pub struct Store<M, B, L> {
+pub struct Store<M: Map, B: Board, L: Lower> {
     map: M,
     board: B,
     lower: L,
     pool: Pool,
+    ghost in_step: { Sound (shaped M.Map.rule (M.Map.room map) (B.Board.size board) (L.Reading.files lower) (L.Reading.width lower)) (stated (M.Map.placed map) (taken_in pool) (B.Board.block board) (L.Reading.bytes lower)) } by { sound_prop _ _ },
 }
 
 impl<M: Map, B: Board, L: Lower> Store<M, B, L> {
     /// A store over these parts. Every file of the map is forgotten, so that all board blocks are free.
     pub fn new(mut map: M, board: B, lower: L) -> Self
-        ensures { M.Map.valid map → B.Board.valid board → L.Reading.valid lower → Made M.Map.rule (M.Map.room map) (B.Board.size board) (B.Board.block board) (L.Reading.files lower) (L.Reading.width lower) (L.Reading.bytes lower) (record { rule = M.Map.rule; keys = M.Map.room result.map; size = B.Board.size result.board; files = L.Reading.files result.lower; width = L.Reading.width result.lower }) (record { place = M.Map.placed result.map; taken = taken_in result.pool; board = B.Board.block result.board; lower = L.Reading.bytes result.lower }) (Whole (M.Map.valid result.map) (B.Board.valid result.board) (L.Reading.valid result.lower) (record { rule = M.Map.rule; keys = M.Map.room result.map; size = B.Board.size result.board; files = L.Reading.files result.lower; width = L.Reading.width result.lower }) (record { place = M.Map.placed result.map; taken = taken_in result.pool; board = B.Board.block result.board; lower = L.Reading.bytes result.lower })) }
+        ensures { Made (shaped M.Map.rule (M.Map.room map) (B.Board.size board) (L.Reading.files lower) (L.Reading.width lower)) (B.Board.block board) (L.Reading.bytes lower) (⟦<Store<M, B, L> as BlockStore>⟧.shape result) (⟦<Store<M, B, L> as BlockStore>⟧.state result) }
     {
         map.forget_all();
         Store {
@@ -58,13 +60,11 @@ impl<M: Map, B: Board, L: Lower> Store<M, B, L> {
 }
 
 impl<M: Map, B: Board, L: Lower> BlockStore for Store<M, B, L> {
-    ghost valid = { λ s. Whole (M.Map.valid s.map) (B.Board.valid s.board) (L.Reading.valid s.lower) (record { rule = M.Map.rule; keys = M.Map.room s.map; size = B.Board.size s.board; files = L.Reading.files s.lower; width = L.Reading.width s.lower }) (record { place = M.Map.placed s.map; taken = taken_in s.pool; board = B.Board.block s.board; lower = L.Reading.bytes s.lower }) };
+    ghost shape = { λ s. shaped M.Map.rule (M.Map.room s.map) (B.Board.size s.board) (L.Reading.files s.lower) (L.Reading.width s.lower) };
 
-    ghost shape = { λ s. record { rule = M.Map.rule; keys = M.Map.room s.map; size = B.Board.size s.board; files = L.Reading.files s.lower; width = L.Reading.width s.lower } };
+    ghost state = { λ s. stated (M.Map.placed s.map) (taken_in s.pool) (B.Board.block s.board) (L.Reading.bytes s.lower) };
 
-    ghost state = { λ s. record { place = M.Map.placed s.map; taken = taken_in s.pool; board = B.Board.block s.board; lower = L.Reading.bytes s.lower } };
-
-    ghost in_step = { Prim.search rules };
+    ghost in_step = { λ s. s.in_step };
 
     fn write(
         &mut self,

@@ -6,21 +6,29 @@ use Rattle.store.proofs.StoreBlockStore.clear.Goals as goal
 pub returns-in_err-admit_clear : goal.returns-in_err-admit_clear
 returns-in_err-admit_clear g c =
     let p = err_from_is_err_and c.from_residual.result c.from_residual.ensures.1 in
-    rw (p.1, p.2) (clauses (λ v.
-    not_admitted c.args.file c.args.first c.args.n v (c.admit_clear.ensures v.lower_valid) c.in_err-admit_clear.field-0.0
+    rw (p.1, p.2) (clauses (
+    not_admitted c.args.file c.args.first c.args.n c.args.self.now.in_step c.admit_clear.ensures c.in_err-admit_clear.field-0.0
     c.in_err-admit_clear.was))
 
 -- the map has refused
 pub returns-in_err-count : goal.returns-in_err-count
 returns-in_err-count g c =
     let p = err_from_is_err_and c.from_residual-in_err-count.result c.from_residual-in_err-count.ensures.1 in
-    rw (p.1, p.2) (clauses (λ v.
-    keeps_all c.args.file c.args.first c.args.n v (c.admit_clear.ensures v.lower_valid) c.in_ok-admit_clear.was
-    (c.vacate.ensures.room v.map_valid) (c.vacate.ensures.step v.map_valid) (c.vacate.ensures.kept v.map_valid)
-    c.in_err-count.field-0.0 c.in_err-count.was))
+    rw (p.1, p.2) (clauses (
+    keeps_all c.args.file c.args.first c.args.n c.args.self.now.in_step c.admit_clear.ensures c.in_ok-admit_clear.was
+    (g.met.L.Reading.few c.args.self.now.lower) (g.met.L.Reading.narrow c.args.self.now.lower)
+    c.vacate.ensures.room c.vacate.ensures.step c.in_err-count.field-0.0 c.in_err-count.was))
 
 pub returns : goal.returns
-returns g c = clauses (λ v.
-    clears_all c.args.file c.args.first c.args.n v (c.admit_clear.ensures v.lower_valid) c.in_ok-admit_clear.was
-    (c.vacate.ensures.room v.map_valid) (c.vacate.ensures.step v.map_valid) (c.vacate.ensures.kept v.map_valid)
-    c.in_ok-count.count c.in_ok-count.was (c.clear.ensures v.lower_valid))
+returns g c = clauses (
+    clears_all c.args.file c.args.first c.args.n c.args.self.now.in_step c.admit_clear.ensures c.in_ok-admit_clear.was
+    (g.met.L.Reading.few c.args.self.now.lower) (g.met.L.Reading.narrow c.args.self.now.lower)
+    c.vacate.ensures.room c.vacate.ensures.step c.in_ok-count.count c.in_ok-count.was c.clear.ensures)
+
+pub invariant_of-self-2 : goal.invariant_of-self-2
+invariant_of-self-2 g c = record {
+  in_step = (
+      clears_all c.args.file c.args.first c.args.n c.args.self.now.in_step c.admit_clear.ensures c.in_ok-admit_clear.was
+      (g.met.L.Reading.few c.args.self.now.lower) (g.met.L.Reading.narrow c.args.self.now.lower)
+      c.vacate.ensures.room c.vacate.ensures.step c.in_ok-count.count c.in_ok-count.was c.clear.ensures).in_step;
+}

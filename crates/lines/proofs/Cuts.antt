@@ -1,5 +1,5 @@
 -- A text cut at a byte.
-use Rattle.std.proofs.Common.{◌≡◌, ℕ, suc, ◌+◌, ◌<◌, ◌≤◌, Bool, true, false, not, cond, eqb, ◌⊎◌, List, [], ◌∷◌, length, take, drop, Some, None, unwrap_or, sym, refl, ap, ◌∙◌, subst, inl, inr, add-one, arith}
+use Rattle.std.proofs.Common.{◌≡◌, ℕ, suc, ◌+◌, ◌<◌, ◌≤◌, Bool, true, false, not, cond, eqb, ◌⊎◌, List, [], ◌∷◌, length, take, drop, Some, None, unwrap_or, sym, refl, ap, ◌∙◌, subst, inl, inr, add-one, arith, length-take}
 use Rattle.std.specs.List.{position, position_or_len}
 use Rattle.std.proofs.lemmas.List.{take_all}
 use Rattle.std.proofs.lemmas.List.Quantifiers.{position-Some}
@@ -55,3 +55,6 @@ cut_behind at (c ∷ cs) = go (eqb c at) (rw add-one at (cut_behind at cs))
         → drop (length (cond b [] (c ∷ before at cs)) + 1) (c ∷ cs) ≡ unwrap_or (cond b (Some cs) (behind at cs)) []
     go true h = refl
     go false h = rw add-one h
+
+pub before_le : (at : ℕ) (bs : List ℕ) → length (before at bs) ≤ length bs
+before_le at bs = let n = position_or_len (λ c. eqb c at) bs in omega (arith, ap length (cut_at at bs).front, length-take n bs)

@@ -1,6 +1,7 @@
 -- The lines of a text, one after another.
 use Rattle.std.proofs.Common.{◌≡◌, ℕ, zero, suc, ◌+◌, ◌<◌, ◌≤◌, List, [], ◌∷◌, length, unwrap_or, refl, ap, arith, length-drop}
-use Rattle.lines.specs.Lines.{before, behind, lines_up_to, lines}
+use Rattle.lines.specs.declared.LineReader.{LineReader}
+use Rattle.lines.specs.Lines.{unread, before, behind, lines_up_to, lines}
 use Rattle.lines.proofs.Cuts.{cut_behind}
 
 -- each line takes at least a byte
@@ -30,3 +31,7 @@ lines_more (c ∷ cs) l =
     let s = rest_shorter (c ∷ cs) l in
     let rest : List ℕ = unwrap_or (behind 10 (c ∷ cs)) [] in
     ap (λ ls. before 10 (c ∷ cs) ∷ ls) (enough (length cs) (length (unwrap_or (behind 10 (c ∷ cs)) [])) (unwrap_or (behind 10 (c ∷ cs)) []) (omega arith) (omega arith))
+
+-- a reader that has not come to the end has something to read
+pub unread_some : (r : LineReader) → r.at < length r.input.now → 0 < length (unread r)
+unread_some r l = omega (arith, length-drop r.at r.input.now)

@@ -173,6 +173,3 @@ module _ (input text : List ℕ) (counts : Summary) (rest : List ℕ) (h : Plann
   pub planning_counts : rest ≡ [] → counts ≡ summary_of (lines input)
   unfolding counted_from
   planning_counts e = ap (counted_from counts) (sym lines_none ∙ ap lines (sym e)) ∙ h.counts_are
-
-pub unread_some : (r : LineReader) → r.at < length r.input.now → 0 < length (unread r)
-unread_some r l = omega (arith, length-drop r.at r.input.now)

@@ -1,6 +1,7 @@
 -- Five bytes for each byte of the text and five more are enough.
-use Rattle.std.proofs.Common.{◌≡◌, ℕ, suc, ◌+◌, ◌^◌, ◌<◌, ◌≤◌, Bool, true, false, cond, eqb, ◌⊎◌, List, [], ◌∷◌, ◌++◌, length, Some, None, codes, decimal, Option, sym, refl, ap, inl, inr, arith, length-append}
+use Rattle.std.proofs.Common.{◌≡◌, ℕ, suc, ◌+◌, ◌^◌, ◌<◌, ◌≤◌, Bool, true, false, cond, eqb, ◌⊎◌, List, [], ◌∷◌, ◌++◌, length, Some, None, codes, decimal, Option, sym, refl, ap, inl, inr, ◌∙◌, unwrap_or, arith, length-append, length-drop}
 use Rattle.std.proofs.lemmas.Fmt.{length-decimal-le}
+use Rattle.std.specs.Option.{option_map}
 use Rattle.faults.specs.declared.Ground.{Ground}
 use Rattle.faults.specs.declared.Ground.TheVariants.{Mark, File, Block, Length, Buffer, BoardNumber, Line, Mapped, NoFreeBlock, TooManyKeys, TableFull}
 use Rattle.faults.specs.Grounds.{ground_number}
@@ -10,6 +11,7 @@ use Rattle.commands.specs.declared.reply.Reply.{Reply}
 use Rattle.commands.specs.declared.reply.Reply.TheVariants.{Granted, Refused, At, Hole, NextAt, NoNext, Held}
 use Rattle.commands.specs.Commands.{reply_text, lettered, command_in, assign_command, clear_command, find_command, next_command, keys_command}
 use Rattle.lines.specs.Lines.{before, behind, fields, number, both}
+use Rattle.lines.proofs.Cuts.{before_le, cut_behind}
 
 -- the numbers of a reply are as small as a console's are
 abbrev pub Small : Reply → Type 0
@@ -65,39 +67,17 @@ ground_small TableFull = omega arith
 
 -- ---- how long a line is
 
-pub before_le : (at : ℕ) (bs : List ℕ) → length (before at bs) ≤ length bs
-unfolding before
-before_le at [] = omega arith
-before_le at (c ∷ cs) = go (eqb c at) (before_le at cs)
-  where
-    go : (b : Bool) → length (before at cs) ≤ length cs → length (cond b [] (c ∷ before at cs)) ≤ suc (length cs)
-    go true h = omega arith
-    go false h = omega arith
-
-pub cut_length : (at : ℕ) (bs r : List ℕ) → behind at bs ≡ Some r → length (before at bs) + 1 + length r ≡ length bs
-unfolding before behind
-cut_length at [] r e = none_some e
-  where
-    none_some : {X : Type 0} → ◌≡◌ {A = Option (List ℕ)} None (Some r) → X
-    none_some f = let z : ◌≡◌ {A = ℕ} 0 1 = cc in absurd (omega arith)
-cut_length at (c ∷ cs) r e = go (eqb c at) e (cut_length at cs r)
-  where
-    go : (b : Bool) → cond b (Some cs) (behind at cs) ≡ Some r → (behind at cs ≡ Some r → length (before at cs) + 1 + length r ≡ length cs)
-        → length (cond b [] (c ∷ before at cs)) + 1 + length r ≡ suc (length cs)
-    go true f more = let g : cs ≡ r = cc in omega (arith, ap length g)
-    go false f more = omega (arith, more f)
-
 number_some : (bs : List ℕ) (v : ℕ) → number bs ≡ Some v → 1 ≤ length bs
-number_some [] v e = let z : ◌≡◌ {A = ℕ} 0 1 = cc in absurd (omega arith)
+number_some [] v e = cc
 number_some (c ∷ cs) v e = omega arith
 
 -- where a field is read, something is left of the line
 field_left : (k : ℕ) (o : Option (List ℕ)) (ns : List ℕ) → fields (suc k) o ≡ Some ns → (r : List ℕ) × (o ≡ Some r) × (1 ≤ length r)
-field_left k None ns e = let z : ◌≡◌ {A = ℕ} 0 1 = cc in absurd (omega arith)
+field_left k None ns e = cc
 field_left k (Some r) ns e = (r, refl, go (number (before 32 r)) refl e)
   where
     go : (o : Option ℕ) → number (before 32 r) ≡ o → both o (fields k (behind 32 r)) ≡ Some ns → 1 ≤ length r
-    go None h f = let z : ◌≡◌ {A = ℕ} 0 1 = cc in absurd (omega arith)
+    go None h f = cc
     go (Some v) h f = omega (arith, number_some (before 32 r) v h, before_le 32 r)
 
 abbrev Left : Option (List ℕ) → Type 0
@@ -105,35 +85,23 @@ Left o = (r : List ℕ) × (o ≡ Some r) × (1 ≤ length r)
 
 -- a command is the one without fields, or something is left for its fields
 module _ (rest : Option (List ℕ)) (c : Command) where
-  assign_left : (o : Option (List ℕ)) → fields 4 rest ≡ o → assign_command o ≡ Some c → Left rest
-  assign_left None h e = let z : ◌≡◌ {A = ℕ} 0 1 = cc in absurd (omega arith)
-  assign_left (Some ns) h e = field_left 3 rest ns h
-
-  clear_left : (o : Option (List ℕ)) → fields 3 rest ≡ o → clear_command o ≡ Some c → Left rest
-  clear_left None h e = let z : ◌≡◌ {A = ℕ} 0 1 = cc in absurd (omega arith)
-  clear_left (Some ns) h e = field_left 2 rest ns h
-
-  find_left : (o : Option (List ℕ)) → fields 2 rest ≡ o → find_command o ≡ Some c → Left rest
-  find_left None h e = let z : ◌≡◌ {A = ℕ} 0 1 = cc in absurd (omega arith)
-  find_left (Some ns) h e = field_left 1 rest ns h
-
-  next_left : (o : Option (List ℕ)) → fields 2 rest ≡ o → next_command o ≡ Some c → Left rest
-  next_left None h e = let z : ◌≡◌ {A = ℕ} 0 1 = cc in absurd (omega arith)
-  next_left (Some ns) h e = field_left 1 rest ns h
+  some_left : (f : List ℕ → Command) (k : ℕ) (o : Option (List ℕ)) → fields (suc k) rest ≡ o → option_map f o ≡ Some c → Left rest
+  some_left f k None h e = cc
+  some_left f k (Some ns) h e = field_left k rest ns h
 
   keys_only : (o : Option (List ℕ)) → keys_command o ≡ Some c → c ≡ Keys
-  keys_only None e = let z : ◌≡◌ {A = ℕ} 0 1 = cc in absurd (omega arith)
+  keys_only None e = cc
   keys_only (Some ns) e = let f : Keys ≡ c = cc in sym f
 
   letter_left : (a b d e f : Bool)
       → cond a (assign_command (fields 4 rest)) (cond b (clear_command (fields 3 rest)) (cond d (find_command (fields 2 rest)) (cond e (next_command (fields 2 rest)) (cond f (keys_command (fields 0 rest)) None)))) ≡ Some c
       → (c ≡ Keys) ⊎ Left rest
-  letter_left true b d e f h = inr (assign_left (fields 4 rest) refl h)
-  letter_left false true d e f h = inr (clear_left (fields 3 rest) refl h)
-  letter_left false false true e f h = inr (find_left (fields 2 rest) refl h)
-  letter_left false false false true f h = inr (next_left (fields 2 rest) refl h)
+  letter_left true b d e f h = inr (some_left _ 3 (fields 4 rest) refl h)
+  letter_left false true d e f h = inr (some_left _ 2 (fields 3 rest) refl h)
+  letter_left false false true e f h = inr (some_left _ 1 (fields 2 rest) refl h)
+  letter_left false false false true f h = inr (some_left _ 1 (fields 2 rest) refl h)
   letter_left false false false false true h = inl (keys_only (fields 0 rest) h)
-  letter_left false false false false false h = let z : ◌≡◌ {A = ℕ} 0 1 = cc in absurd (omega arith)
+  letter_left false false false false false h = cc
 
 -- a line that is the command without fields has a byte, and any other command at least three
 pub line_long : (line : List ℕ) (c : Command) → command_in line ≡ Some c → ((c ≡ Keys) × (1 ≤ length line)) ⊎ (3 ≤ length line)
@@ -141,9 +109,9 @@ line_long line c h = go (before 32 line) refl h
   where
     one : (x : ℕ) → before 32 line ≡ x ∷ [] → (c ≡ Keys) ⊎ Left (behind 32 line) → ((c ≡ Keys) × (1 ≤ length line)) ⊎ (3 ≤ length line)
     one x e (inl k) = inl (k, omega (arith, ap length e, before_le 32 line))
-    one x e (inr l) = inr (omega (arith, ap length e, cut_length 32 line l.0 l.1, l.2))
+    one x e (inr l) = inr (omega (arith, ap length e, ap length (cut_behind 32 line ∙ ap (λ o. unwrap_or o []) l.1), length-drop (length (before 32 line) + 1) line, l.2))
 
     go : (f : List ℕ) → before 32 line ≡ f → lettered f (behind 32 line) ≡ Some c → ((c ≡ Keys) × (1 ≤ length line)) ⊎ (3 ≤ length line)
-    go [] e g = let z : ◌≡◌ {A = ℕ} 0 1 = cc in absurd (omega arith)
+    go [] e g = cc
     go (x ∷ []) e g = one x e (letter_left (behind 32 line) c (eqb x 97) (eqb x 99) (eqb x 102) (eqb x 110) (eqb x 107) g)
-    go (x ∷ y ∷ zs) e g = let z : ◌≡◌ {A = ℕ} 0 1 = cc in absurd (omega arith)
+    go (x ∷ y ∷ zs) e g = cc

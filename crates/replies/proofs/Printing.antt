@@ -7,24 +7,16 @@ use Rattle.maps.specs.Steps.{nowhere}
 use Rattle.key_rule.specs.Keyed.{rule_of_keys, OnBoard}
 use Rattle.lines.specs.declared.LineReader.{LineReader}
 use Rattle.lines.specs.Lines.{before, behind, lines, unread}
+use Rattle.lines.proofs.Cuts.{before_le, cut_behind}
 use Rattle.lines.proofs.Steps.{lines_none, lines_more}
 use Rattle.commands.specs.Commands.{command_in, reply_text}
 use Rattle.replies.specs.Console.{ground_of_console, reply_to, printed_from, transcript}
-use Rattle.replies.proofs.Lengths.{before_le, cut_length}
 use Rattle.replies.proofs.Smalls.{reply_fits}
 
 -- a line and its newline are no longer than what is left to read, and what is left behind them is the rest
 pub line_room : (rest : List ℕ) → (length (before 10 rest) ≤ length rest)
     × (0 < length (unwrap_or (behind 10 rest) []) → length (before 10 rest) + 1 + length (unwrap_or (behind 10 rest) []) ≡ length rest)
-line_room rest = (before_le 10 rest, at (behind 10 rest) refl)
-  where
-    at : (o : Option (List ℕ)) → behind 10 rest ≡ o → 0 < length (unwrap_or o []) → length (before 10 rest) + 1 + length (unwrap_or o []) ≡ length rest
-    at None e l = absurd (omega arith)
-    at (Some r) e l = cut_length 10 rest r e
-
--- a reader that has not come to the end has something to read
-pub unread_some : (r : LineReader) → r.at < length r.input.now → 0 < length (unread r)
-unread_some r l = omega (arith, length-drop r.at r.input.now)
+line_room rest = (before_le 10 rest, λ l. omega (arith, ap length (cut_behind 10 rest), length-drop (length (before 10 rest) + 1) rest))
 
 -- One line is answered: its reply is printed as the text, and the placement becomes q.
 pub record Turn (p : Placement) (line text : List ℕ) (q : Placement) : Type 0 where

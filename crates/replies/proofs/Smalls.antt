@@ -31,7 +31,7 @@ tried_small t b = omega (arith, tried_few t (path b), path_length b, ones-le 12 
 
 pub lowest_small : (m : ℕ → Option ℕ) (b n x : ℕ) → lowest_mapped_block m b n ≡ Some x → x < b + n
 unfolding lowest_mapped_block
-lowest_small m b zero x e = let z : ◌≡◌ {A = ℕ} 0 1 = cc in absurd (omega arith)
+lowest_small m b zero x e = cc
 lowest_small m b (suc n) x e = go (m b) e (lowest_small m (suc b) n x)
   where
     go : (o : Option ℕ) → here_or o b (lowest_mapped_block m (suc b) n) ≡ Some x → (lowest_mapped_block m (suc b) n ≡ Some x → x < suc b + n) → x < b + suc n

@@ -1,7 +1,8 @@
 use Rattle.std.proofs.Common.{◌≡◌, ◌∙◌, rules}
 use Rattle.lines.specs.Lines.{unread}
 use Rattle.commands.specs.Commands.{reply_text}
-use Rattle.replies.proofs.Printing.{Turn, printing_start, printing_fits, printing_next, printing_number, printing_output, unread_some}
+use Rattle.replies.proofs.Printing.{Turn, printing_start, printing_fits, printing_next, printing_number, printing_output}
+use Rattle.lines.proofs.Steps.{unread_some}
 use Rattle.console.specs.Calls.{placed_by}
 use Rattle.console.proofs.Turns.{turned}
 use Rattle.console.proofs.printing.answer_lines.Given as given
@@ -23,7 +24,7 @@ turn g c =
     let ready = c.loop-line.invariant.0 in
     turned g.T.Table.valid g.T.Table.holding g.T.Table.places g.met.T.Table.bounded c.loop-line.map c.reply_to-reply.new.map
     ready (c.reply_to-reply.ensures.kept ready) c.in-Some.line.now
-    c.reply_to-reply.result (c.reply_to-reply.ensures.step ready) c.as_bytes.result.now (◌∙◌ {c = reply_text c.reply_to-reply.result} c.as_bytes.ensures c.text_of-text.ensures)
+    c.reply_to-reply.result (c.reply_to-reply.ensures.step ready) c.as_bytes.result.now (c.as_bytes.ensures.value ∙ c.deref.ensures.0 ∙ c.text_of-text.ensures)
 
 pub put-printed-requires : goal.put-printed-requires
 put-printed-requires g c =

@@ -1,8 +1,9 @@
 use Rattle.std.proofs.Common.{◌++◌, string_bytes, refl, ap, ◌∙◌, arith}
 use Rattle.std.proofs.lemmas.Result.{err_from_is_err_and}
 use Rattle.lines.specs.Lines.{lines, unread}
+use Rattle.lines.proofs.Steps.{unread_some}
 use Rattle.planning.specs.Plans.{nothing, lines_text, summary_text}
-use Rattle.planning.proofs.Counts.{planning_start, planning_room, planning_next, planning_text, planning_counts, bounded_start, bounded_all, unread_some}
+use Rattle.planning.proofs.Counts.{planning_start, planning_room, planning_next, planning_text, planning_counts, bounded_start, bounded_all}
 use Rattle.planning.proofs.plan.plan.Goals as goal
 
 pub returns-then-input : goal.returns-then-input

@@ -1,2 +1,3 @@
 pub mod Ordered
+pub mod Tables
 pub mod OrderedLaws

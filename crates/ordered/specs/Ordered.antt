@@ -1,12 +1,9 @@
 -- What rising rows mean, and what a table of them keeps true.
-use Rattle.std.specs.Prelude.{◌≡◌, ℕ, ◌+◌, ◌-◌, ◌*◌, ◌<◌, ◌≤◌, List, length, get_or, vec_items, vec_capacity, slice_index_or}
+use Rattle.std.specs.Prelude.{◌≡◌, ℕ, ◌+◌, ◌-◌, ◌*◌, ◌<◌, ◌≤◌, List, length, get_or, Ok, Err, Result, slice_index_or}
 use Rattle.blocks.specs.Blocks.{tally}
 use Rattle.tables.specs.declared.row.Row.{Row}
 use Rattle.tables.specs.Holding.{Holding}
 use Rattle.tables.specs.Rows.{blank, Good, says, first}
-use Rattle.ordered.specs.declared.Place.{Place}
-use Rattle.ordered.specs.declared.Place.TheVariants.{At, Before}
-use Rattle.ordered.specs.declared.OrderedTable.{OrderedTable}
 
 -- what stands under each key
 abbrev pub lookup : List Row → Holding
@@ -30,12 +27,6 @@ pub record Sound (xs : List Row) (room cap : ℕ) : Type 0 where
   pub fits : length xs ≤ room
   pub memory : room ≤ cap
 
-abbrev pub Valid : OrderedTable → Type 0
-Valid t = Sound (vec_items t.rows) t.room (vec_capacity t.rows)
-
-abbrev pub holding_of : OrderedTable → Holding
-holding_of t = lookup (vec_items t.rows)
-
 -- ---- places of keys
 
 -- r is where a key of rank k stands, or would stand.
@@ -56,6 +47,7 @@ pub record Miss (xs : List Row) (f b i : ℕ) : Type 0 where
   pub before : 0 < i → rank_at xs (i - 1) < rank f b
   pub after : i < length xs → rank f b < rank_at xs i
 
-abbrev pub Sought : List Row → ℕ → ℕ → Place → Type 0
-Sought xs f b (At i) = Hit xs f b i
-Sought xs f b (Before i) = Miss xs f b i
+-- where a key stands, or else where it would
+abbrev pub Sought : List Row → ℕ → ℕ → Result ℕ ℕ → Type 0
+Sought xs f b (Ok i) = Hit xs f b i
+Sought xs f b (Err i) = Miss xs f b i

@@ -1,8 +1,9 @@
 -- What each change of rising rows means.
-use Rattle.std.specs.Prelude.{◌≡◌, ℕ, ◌+◌, ◌-◌, ◌<◌, ◌≤◌, true, false, not, ◌≢◌, List, [], length, get_or, is_some, Some, None, Option, slice_index_or, slice_set, refl}
+use Rattle.std.specs.Prelude.{◌≡◌, ℕ, ◌+◌, ◌-◌, ◌<◌, ◌≤◌, true, false, not, cond, ◌==◌, ◌≢◌, List, [], length, get_or, is_some, Some, None, Option, slice_get, slice_index_or, slice_set, refl}
 use Rattle.std.proofs.Common.{sym, ap, subst, ◌∙◌, inl, inr, arith, length-set, get_or-set_same, get_or-set_other}
 use Rattle.std.specs.List.{insert, remove}
-use Rattle.std.proofs.lemmas.Bool.{cases_eq, cases_lt, cases_order}
+use Rattle.std.proofs.lemmas.Bool.{cases_eq, cases_lt, cases_order, cond-true, cond-false, eq-eqb, ne_eqb}
+use Rattle.std.proofs.lemmas.Option.{slice_get-get_or, slice_get_past}
 use Rattle.std.proofs.lemmas.List.Edits.{length-insert, length-remove, get_or-insert_below, get_or-insert_at, get_or-insert_above, get_or-remove_below, get_or-remove_above}
 use Rattle.blocks.specs.declared.Entry.{Entry}
 use Rattle.blocks.specs.Blocks.{changed, only, one}
@@ -246,3 +247,17 @@ low_some xs f b r room cap s h q e =
     (hit_found xs f x.block r s.rising (record { within = q; file = e; block = refl }))
     (λ b' l m. gap xs f b r b' s.rising h l (λ _. omega arith))
     ∙ ap (λ (n : ℕ). Some (record { file = n; block = x.block; entry = x.entry })) (sym e))
+
+-- the row, if it is of the file
+abbrev pub of_file : ℕ → Option Row → Option Row
+of_file f None = None
+of_file f (Some x) = cond (x.file == f) (Some x) None
+
+pub low_here : (xs : List Row) (f b r room cap : ℕ) → Sound xs room cap → Stands xs (rank f b) r → of_file f (slice_get xs r) ≡ lowest_row (lookup xs) f b
+low_here xs f b r room cap s h = elim (cases_lt r (length xs)) [
+  | inl q ↦ ap (of_file f) (slice_get-get_or xs r blank q) ∙ elim (cases_eq (get_or xs r blank).file f) [
+    | inl e ↦ cond-true _ _ _ (eq-eqb _ _ e) ∙ low_some xs f b r room cap s h q e
+    | inr n ↦ cond-false _ _ _ (ne_eqb _ _ n) ∙ low_none xs f b r s.rising h (λ _. omega (arith, h.from q, (s.numbered r q).1))
+  ]
+  | inr q ↦ ap (of_file f) (slice_get_past xs r q) ∙ low_none xs f b r s.rising h (λ z. absurd (omega arith))
+]

@@ -2,29 +2,25 @@
 
 #![tactic(auto)]
 
+mod rows;
+
 ghost use Rattle.std.specs.Prelude.{◌≡◌, ℕ, min, IfOk, vec_capacity};
 ghost use Rattle.tables.specs.Holding.{nothing};
-ghost use Rattle.ordered.specs.Ordered.{Valid, holding_of, rank, Stands, Sought};
+ghost use Rattle.ordered.specs.Ordered.{rank, Stands, Sought};
+ghost use Rattle.ordered.specs.Tables.{holding_of};
 ghost use Rattle.std.proofs.Common.{arith};
 ghost use Rattle.ordered.specs.OrderedLaws.{numbered_keys};
 
 use blocks::Entry;
+pub use rows::OrderedTable;
 use std::alloc::{AllocError, Global};
 use tables::row::Row;
 use tables::table::Table;
 
-/// Keys of files in order, those of one file in order of their blocks.
-/// The memory of all rows is taken when the table is made.
-#[derive(Drop)]
-pub struct OrderedTable {
-    rows: Vec<Row>,
-    room: u32,
-}
-
 impl OrderedTable {
     /// A table with room for n keys, 2,048 at most.
     pub fn new(heap: Global, n: u32) -> Result<OrderedTable, AllocError>
-        ensures { IfOk result (λ t. Valid t × (holding_of t ≡ nothing) × (t.room ≡ min n 2048)) }
+        ensures { IfOk result (λ t. (holding_of t ≡ nothing) × (t.room ≡ min n 2048)) }
     {
         let room = n.min(2048);
         let rows = Vec::with_capacity(heap, room as usize)?;
@@ -32,18 +28,11 @@ impl OrderedTable {
     }
 }
 
-/// Where a key stands among rising rows, or where it would stand.
-#[derive(Clone, Copy)]
-enum Place {
-    At(usize),
-    Before(usize),
-}
-
 /// The number by which keys are ordered.
 fn rank_of(file: u16, block: u16) -> u32
     ensures { result ≡ rank file block }
 {
-    file as u32 * 65536 + block as u32
+    u32::from(file) * 65536 + u32::from(block)
 }
 
 /// The index of the first row whose key is not below the one given, by halving.
@@ -51,6 +40,7 @@ fn place_in(rows: &Vec<Row>, file: u16, block: u16) -> usize
     ensures { Stands rows.now.items (rank file block) result }
 {
     let wanted = rank_of(file, block);
+    // The project wants this loop with an index into the rows.
     let mut low = 0;
     let mut high = rows.len();
     while low < high {
@@ -65,29 +55,25 @@ fn place_in(rows: &Vec<Row>, file: u16, block: u16) -> usize
     low
 }
 
-fn seek(rows: &Vec<Row>, file: u16, block: u16) -> Place
+/// Where a key stands among rising rows, or where it would stand.
+fn seek(rows: &Vec<Row>, file: u16, block: u16) -> Result<usize, usize>
     ensures { Sought rows.now.items file block result }
 {
     let place = place_in(rows, file, block);
-    if place < rows.len() {
-        let row = rows[place];
-        if row.file == file && row.block == block {
-            return Place::At(place);
-        }
+    match rows.get(place) {
+        Some(&row) if row.file == file && row.block == block => Ok(place),
+        _ => Err(place),
     }
-    Place::Before(place)
 }
 
 impl Table for OrderedTable {
-    ghost valid = { Valid };
-
     ghost holding = { holding_of };
 
     ghost places = { λ t. t.room };
 
-    ghost bounded = { λ t v. omega (arith, v.counted, v.fits) };
+    ghost bounded = { λ t. omega (arith, t.sound.counted, t.sound.fits) };
 
-    ghost numbered = { λ t v. numbered_keys t.rows.items t.room (vec_capacity t.rows) v };
+    ghost numbered = { λ t. numbered_keys t.rows.items t.room (vec_capacity t.rows) t.sound };
 
     fn room(&self) -> u32 {
         self.room
@@ -96,6 +82,7 @@ impl Table for OrderedTable {
     /// Counts the rows.
     fn held(&self) -> u32 {
         let room = self.room;
+        // The project wants this loop with an index into the rows.
         let mut i = 0;
         while i < room && (i as usize) < self.rows.len() {
             i += 1;
@@ -109,19 +96,19 @@ impl Table for OrderedTable {
 
     fn find(&self, file: u16, block: u16) -> Option<Entry> {
         match seek(&self.rows, file, block) {
-            Place::At(i) => Some(self.rows[i].entry),
-            Place::Before(_) => None,
+            Ok(i) => Some(self.rows[i].entry),
+            Err(_) => None,
         }
     }
 
     fn store(&mut self, file: u16, block: u16, entry: Entry) -> bool {
         let row = Row { file, block, entry };
         match seek(&self.rows, file, block) {
-            Place::At(i) => {
+            Ok(i) => {
                 self.rows[i] = row;
                 true
             }
-            Place::Before(i) => {
+            Err(i) => {
                 if self.rows.len() >= self.room as usize {
                     return false;
                 }
@@ -132,22 +119,16 @@ impl Table for OrderedTable {
 
     fn remove(&mut self, file: u16, block: u16) -> bool {
         match seek(&self.rows, file, block) {
-            Place::At(i) => {
+            Ok(i) => {
                 let _ = self.rows.remove(i);
                 true
             }
-            Place::Before(_) => false,
+            Err(_) => false,
         }
     }
 
     fn first_from(&self, file: u16, block: u16) -> Option<Row> {
         let place = place_in(&self.rows, file, block);
-        if place < self.rows.len() {
-            let row = self.rows[place];
-            if row.file == file {
-                return Some(row);
-            }
-        }
-        None
+        self.rows.get(place).copied().filter(|row| row.file == file)
     }
 }

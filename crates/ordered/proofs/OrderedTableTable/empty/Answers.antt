@@ -1,9 +1,8 @@
-use Rattle.std.proofs.Common.{refl, ap, arith}
-use Rattle.ordered.specs.Ordered.{lookup}
+use Rattle.std.proofs.Common.{arith}
 use Rattle.ordered.specs.OrderedLaws.{empty_sound}
 use Rattle.ordered.proofs.OrderedTableTable.empty.Goals as goal
 
-pub returns : goal.returns
-returns c =
+pub invariant_of-self : goal.invariant_of-self
+invariant_of-self c =
     let e = c.clear.ensures.items in
-    record { kept = λ v. rw e (empty_sound _ _ (omega (arith, v.memory))); room = refl; after = λ v. ap lookup e }
+    record { sound = rw e (empty_sound _ _ (omega (arith, c.args.self.now.sound.memory))) }

@@ -1,62 +1,20 @@
 -- Where the blocks of files lie in memory, and what a change of a part leaves of them.
-use Rattle.std.proofs.Common.{◌≡◌, ℕ, ◌+◌, ◌-◌, ◌*◌, ◌/◌, ◌<◌, ◌≤◌, min, Bool, true, false, ◌&&◌, eqb, ltb, leb, ◌⊎◌, List, [], length, take, replicate, Some, None, sym, refl, ap, ◌∙◌, inl, inr, ⊎_elim, zero-le, mul_assoc, mul_comm, arith}
+use Rattle.std.proofs.Common.{◌≡◌, ℕ, ◌+◌, ◌-◌, ◌*◌, ◌<◌, ◌≤◌, Bool, true, false, ◌&&◌, eqb, ltb, leb, ◌⊎◌, List, [], length, take, replicate, sym, refl, ap, ◌∙◌, inl, inr, ⊎_elim, arith}
 use mathlib.Core.Path.{fun_ext}
-use Rattle.std.proofs.lemmas.Nat.{mul-add-lt, mul-le, div-add-mod'}
+use Rattle.std.proofs.lemmas.Nat.{mul-add-lt}
 use Rattle.std.proofs.lemmas.List.{take_all, take-replicate, drop-replicate, length-replicate}
-use Rattle.std.proofs.lemmas.Bool.{cond-true, cond-false, cond_both, lt-ltb, and_from, and_parts, and_cases, both_ways, eqb-true, eqb-false, leb-true, leb-false, ltb-true, ltb-false, cases_order, cases_lt, cases_cond, le-leb}
+use Rattle.std.proofs.lemmas.Bool.{cond-false, lt-ltb, and_from, and_parts, and_cases, both_ways, eqb-true, eqb-false, leb-true, leb-false, ltb-true, ltb-false, cases_order, cases_lt}
 use Rattle.blocks.specs.Blocks.{only, inside, changed, zero_block}
 use Rattle.blocks.proofs.Changes.{changed_here, changed_beside, changed_elsewhere}
 use Rattle.memory.specs.Memory.{block_at, overlaid}
-use Rattle.memory.proofs.Overlays.{length_overlaid, length_block, block_before, block_behind, block_within}
-use Rattle.flat.specs.Flat.{files_in, index_of, start_in, bytes_in, Laid}
+use Rattle.memory.proofs.Overlays.{length_overlaid, block_before, block_behind, block_within}
+use Rattle.flat.specs.Flat.{files_in, index_of, bytes_in, Laid}
+use Rattle.flat.specs.Full.{extent_within, bytes_is}
 
--- ---- a block lies in memory
-
-files_fit : (bytes width : ℕ) → files_in bytes width ≤ bytes / (width * 4096)
-files_fit bytes width =
-    cond_both (eqb width 0) 0 (min (bytes / (width * 4096)) 65536) (λ n. n ≤ bytes / (width * 4096)) (λ _. zero-le) (λ _. omega arith)
-
-rows_fit : (bytes files width : ℕ) → files ≤ bytes / (width * 4096) → (width * files) * 4096 ≤ bytes
-rows_fit bytes files width l =
-    let p = mul-le files (width * 4096) (bytes / (width * 4096)) (width * 4096) l (omega arith) in
-    let q = div-add-mod' bytes (width * 4096) in
-    let s : files * (width * 4096) ≡ (width * files) * 4096 = sym (mul_assoc files width 4096) ∙ ap (λ (n : ℕ). n * 4096) (mul_comm files width) in
-    omega arith
-
-module _ (memory : List ℕ) (files width : ℕ) (laid : Laid memory files width) where
-  pub rows_within : (width * files) * 4096 ≤ length memory
-  rows_within = rows_fit (length memory) files width (omega (arith, laid.whole, files_fit (length memory) width))
-
-  pub extent_within : (file first n : ℕ) → file < files → 0 < n → first + n ≤ width → index_of width file first * 4096 + n * 4096 ≤ length memory
-  extent_within file first n lf l0 ln = omega (arith, rows_within, mul-add-lt file width ((first + n) - 1) files lf (omega arith))
-
-pub bytes_is : (memory : List ℕ) (files width f b : ℕ) → f < files → b < width → bytes_in memory files width f b ≡ block_at memory (index_of width f b)
-bytes_is memory files width f b lf lb =
-    cond-true (ltb f files && ltb b width) (block_at memory (index_of width f b)) [] (and_from _ _ (lt-ltb f files lf) (lt-ltb b width lb))
-
-pub full_within : (memory : List ℕ) (files width : ℕ) → Laid memory files width → (f b : ℕ) → f < files → b < width → length (bytes_in memory files width f b) ≡ 4096
-full_within memory files width laid f b lf lb =
-    ap length (bytes_is memory files width f b lf lb) ∙ length_block memory (index_of width f b) (omega (arith, extent_within memory files width laid f b 1 lf (omega arith) (omega arith)))
+-- ---- what a change leaves of a part
 
 apart : (b block : ℕ) → (b ≡ block → ⊥) → block ≤ b → block < b
 apart b block d l = ⊎_elim (λ q. absurd (d q)) (λ o. ⊎_elim (λ (h : b < block). omega arith) (λ h. h) o) (cases_order b block)
-
--- ---- where an extent starts
-
-pub start_is : (bytes width file first n at : ℕ) → Some at ≡ start_in bytes width file first n → at ≡ index_of width file first * 4096
-start_is bytes width file first n at e =
-    ⊎_elim (λ (q : Some at ≡ Some (index_of width file first * 4096)). cc)
-    (λ (q : Some at ≡ None). let z : ◌≡◌ {A = ℕ} 0 1 = cc in absurd (omega arith))
-    (cases_cond (leb (index_of width file first + n) (bytes / 4096)) (Some (index_of width file first * 4096)) None (Some at) e)
-
-pub has_start : (memory : List ℕ) (files width file first n : ℕ) → Laid memory files width → file < files → 0 < n → first + n ≤ width
-    → None ≡ start_in (length memory) width file first n → ⊥
-has_start memory files width file first n laid lf l0 ln e =
-    let room = extent_within memory files width laid file first n lf l0 ln in
-    let q : start_in (length memory) width file first n ≡ Some (index_of width file first * 4096) =
-    cond-true (leb (index_of width file first + n) (length memory / 4096)) (Some (index_of width file first * 4096)) None (le-leb _ _ (omega arith)) in
-    let z : ◌≡◌ {A = ℕ} 0 1 = cc in
-    omega arith
 
 -- ---- a change of the n blocks from the first on
 

@@ -1,7 +1,10 @@
 -- Files of blocks in memory, file by file.
-use Rattle.std.specs.Prelude.{◌≡◌, ℕ, ◌+◌, ◌*◌, ◌/◌, ◌≤◌, min, cond, ◌&&◌, List, [], length, Some, None, Option, ◌==◌, nat_le, nat_lt}
+use Rattle.std.specs.Prelude.{◌≡◌, ℕ, ◌+◌, ◌*◌, ◌/◌, ◌≤◌, min, cond, ◌&&◌, List, [], length, Bool, Result, ◌==◌, nat_le, nat_lt}
 use Rattle.blocks.specs.Blocks.{Contents}
 use Rattle.memory.specs.Memory.{block_at}
+use Rattle.faults.specs.declared.Fault.{Fault}
+use Rattle.lowers.specs.Lowers.{CopiesOut, Changes}
+use Rattle.flat.specs.declared.layout.Layout.{Layout}
 
 -- the blocks of a file: as many as given, and none where more than 65,536 are given
 abbrev pub width_of : ℕ → ℕ
@@ -15,11 +18,6 @@ files_in bytes width = cond (width == 0) 0 (min (bytes / (width * 4096)) 65536)
 abbrev pub index_of : ℕ → ℕ → ℕ → ℕ
 index_of width file block = file * width + block
 
--- where the n blocks from the first on start in memory of so many bytes, if it has them all
-abbrev pub start_in : ℕ → ℕ → ℕ → ℕ → ℕ → Option ℕ
-start_in bytes width file first n =
-    cond (nat_le (index_of width file first + n) (bytes / 4096)) (Some (index_of width file first * 4096)) None
-
 -- what each block of each file holds, and nothing past the last file or the last block
 abbrev pub bytes_in : List ℕ → ℕ → ℕ → Contents
 bytes_in memory files width f b = cond (nat_lt f files && nat_lt b width) (block_at memory (index_of width f b)) []
@@ -28,3 +26,15 @@ bytes_in memory files width f b = cond (nat_lt f files && nat_lt b width) (block
 pub record Laid (memory : List ℕ) (files width : ℕ) : Type 0 where
   pub whole : files ≡ files_in (length memory) width
   pub narrow : width ≤ 65536
+
+-- What a read of files in memory answers and leaves.
+abbrev pub CopiesOutIn : List ℕ → Layout → ℕ → ℕ → List ℕ → Result (Unit {0}) Fault → List ℕ → List ℕ → Layout → Type 0
+CopiesOutIn memory layout file block buffer answer buffer_after memory_after layout_after =
+    CopiesOut layout.files layout.width (bytes_in memory layout.files layout.width) file block buffer answer buffer_after
+    layout_after.files layout_after.width (bytes_in memory_after layout_after.files layout_after.width)
+
+-- What a call that changes some blocks of a file in memory answers and leaves.
+abbrev pub ChangesIn : List ℕ → Layout → ℕ → (ℕ → Bool) → (ℕ → List ℕ) → Result (Unit {0}) Fault → Result (Unit {0}) Fault → List ℕ → Layout → Type 0
+ChangesIn memory layout file chosen new due answer memory_after layout_after =
+    Changes layout.files layout.width (bytes_in memory layout.files layout.width) file chosen new due answer
+    layout_after.files layout_after.width (bytes_in memory_after layout_after.files layout_after.width)

@@ -2,8 +2,10 @@
 
 #![tactic(auto)]
 
+mod files;
 mod layout;
 mod picture;
+mod reading;
 mod store;
 
 pub use picture::Picture;

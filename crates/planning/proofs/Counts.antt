@@ -1,7 +1,9 @@
 -- Counts that grow block by block and line by line.
-use Rattle.std.proofs.Common.{◌≡◌, ℕ, zero, suc, ◌+◌, ◌-◌, ◌*◌, ◌^◌, ◌<◌, ◌≤◌, max, ◌⊎◌, List, [], ◌∷◌, ◌++◌, length, Some, None, Ok, Err, Option, Result, unwrap_or, sym, refl, ap, ◌∙◌, subst, inl, inr, add-one, arith, length-drop}
+use Rattle.std.proofs.Common.{◌≡◌, ℕ, zero, suc, ◌+◌, ◌-◌, ◌*◌, ◌^◌, ◌<◌, ◌≤◌, max, Bool, true, false, eqb, ◌⊎◌, List, [], ◌∷◌, ◌++◌, length, Some, None, Ok, Err, Option, Result, unwrap_or, sym, refl, ap, ◌∙◌, subst, inl, inr, add-one, arith, length-drop}
 use Rattle.std.proofs.lemmas.Bool.{cases_lt, eq-eqb}
 use Rattle.std.proofs.lemmas.Bool.Decides.{nat_tests}
+use Rattle.std.specs.Int.{from_bool}
+use Rattle.std.specs.Option.{option_eq}
 use Rattle.blocks.specs.Blocks.{one}
 use Rattle.blocks.proofs.Sums.{one_le, count_full}
 use Rattle.extents.specs.Extents.{KeyTable, lookup, tried}
@@ -38,6 +40,15 @@ back_next t first p i right most more try h e f =
     let n : right_in t first p (i + 1) ≡ one (is_at (lookup t (first + i)) (p + i)) + right_in t first p i = ap (right_in t first p) (add-one i) in
     let q : most_tried t first (i + 1) ≡ max (most_tried t first i) (tried t (first + i)) = ap (most_tried t first) (add-one i) in
     record { right_is = omega arith; most_is = (cc); few = omega arith }
+
+-- what a block adds to those that were right
+pub right_more : (o : Option ℕ) (p : ℕ) → from_bool (option_eq eqb o (Some p)) ≡ one (is_at o p)
+right_more None p = refl
+right_more (Some q) p = at (eqb q p)
+  where
+    at : (b : Bool) → from_bool b ≡ one b
+    at true = refl
+    at false = refl
 
 -- ---- runs that are planned
 
@@ -80,7 +91,7 @@ pub record Bounded (s : Summary) : Type 0 where
   pub keys : s.keys ≤ 4096 * s.lines
   pub right : s.right ≡ s.blocks
 
-pub bounded_start : Bounded nothing
+bounded_start : Bounded nothing
 bounded_start = record { planned = omega arith; refused = omega arith; blocks = omega arith; keys = omega arith; right = refl }
 
 pub bounded_room : (s : Summary) → Bounded s → s.lines < 2 ^ 32 → Room s
@@ -123,10 +134,14 @@ bounded_next s (Some run) b = at (ground_of_run run.first run.blocks run.board) 
         }
     at (Some g) e = record { planned = omega (arith, p); refused = omega (arith, r); blocks = omega (arith, k); keys = omega (arith, y); right = b.right }
 
-pub bounded_all : (s : Summary) (ls : List (List ℕ)) → Bounded s → Bounded (counted_from s ls)
+bounded_all : (s : Summary) (ls : List (List ℕ)) → Bounded s → Bounded (counted_from s ls)
 unfolding counted_from
 bounded_all s [] b = b
 bounded_all s (l ∷ ls) b = bounded_all (counted s (outcome l)) ls (bounded_next s (run_in_line (fields 3 (Some l))) b)
+
+-- every block of every run that is planned is right
+pub all_lines_right : (ls : List (List ℕ)) → (summary_of ls).right ≡ (summary_of ls).blocks
+all_lines_right ls = (bounded_all nothing ls bounded_start).right
 
 -- the text and the counts so far, and what the lines that are left add to them, are the whole
 pub record Planning (input text : List ℕ) (counts : Summary) (rest : List ℕ) : Type 0 where

@@ -1,5 +1,5 @@
 -- What a plan of extents prints for its lines, and what it counts.
-use Rattle.std.specs.Prelude.{ℕ, zero, suc, ◌+◌, ◌*◌, ◌^◌, ◌<◌, ◌≤◌, max, Bool, false, List, [], ◌∷◌, ◌++◌, length, Some, None, Ok, Err, codes, decimal, Option, Result, ◌==◌, slice_index}
+use Rattle.std.specs.Prelude.{◌≡◌, ℕ, zero, suc, ◌+◌, ◌*◌, ◌^◌, ◌<◌, ◌≤◌, max, Bool, false, List, [], ◌∷◌, ◌++◌, length, Some, None, Ok, Err, codes, decimal, Option, Result, ◌==◌, slice_index}
 use Rattle.blocks.specs.Blocks.{count}
 use Rattle.faults.specs.Grounds.{ground_number}
 use Rattle.faults.specs.declared.Ground.{Ground}
@@ -9,6 +9,8 @@ use Rattle.extents.specs.declared.key.Key.{Key}
 use Rattle.extents.specs.Extents.{KeyTable, lookup, tried}
 use Rattle.extents.specs.Runs.{ground_of_run, walk, table_of}
 use Rattle.planning.specs.declared.plan.PlanError.{PlanError}
+use Rattle.run_keys.specs.declared.run.RunError.{RunError}
+use Rattle.run_keys.specs.declared.run.RunError.TheVariants.{Unadmitted}
 use Rattle.planning.specs.declared.plan.PlanError.TheVariants.{TooLong, NoMemory}
 use Rattle.planning.specs.declared.summary.Run.{Run}
 use Rattle.planning.specs.declared.summary.Summary.{Summary}
@@ -31,6 +33,15 @@ asked (Some run) = admitted (ground_of_run run.first run.blocks run.board) run
 -- the run that a line asks for, or the ground on which the line is refused
 abbrev pub outcome : List ℕ → Result Run Ground
 outcome line = asked (run_in_line (fields 3 (Some line)))
+
+-- the run's blocks and board numbers are such as there are
+abbrev pub InRange : Run → Type 0
+InRange run = (run.first + run.blocks ≤ 65536) × (run.board + run.blocks ≤ 4096)
+
+-- why a line has no keys: it is refused, or there was no memory
+abbrev pub NoKeys : Result Run Ground → RunError → Type 0
+NoKeys asked (Unadmitted g) = asked ≡ Err g
+NoKeys asked RunError.NoMemory = Unit {0}
 
 -- the keys of a run
 abbrev pub keys_of : Run → List Key

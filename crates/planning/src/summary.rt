@@ -1,5 +1,10 @@
 //! What a plan asks for and what it counts.
 
+ghost use Rattle.std.specs.Prelude.{Some};
+ghost use Rattle.planning.specs.Plans.{summary_text};
+
+use std::fmt;
+
 /// A straight run of blocks, by its first block, its number of blocks and its first board number.
 #[derive(Clone, Copy, PartialEq, Eq, Debug)]
 pub struct Run {
@@ -9,7 +14,7 @@ pub struct Run {
 }
 
 /// What is counted over a plan.
-#[derive(Clone, Copy, PartialEq, Eq, Debug)]
+#[derive(Clone, Copy, Default, PartialEq, Eq, Debug)]
 pub struct Summary {
     /// lines read
     pub lines: u64,
@@ -25,4 +30,24 @@ pub struct Summary {
     pub tried: u32,
     /// blocks that the look-up over a run's keys finds where the run has them
     pub right: u64,
+}
+
+impl fmt::Display for Summary {
+    ghost output = { λ s. Some (summary_text s) };
+
+    fn fmt<W: fmt::Write>(&self, f: &mut fmt::Formatter<W>) -> fmt::Result {
+        let Summary {
+            lines,
+            planned,
+            refused,
+            blocks,
+            keys,
+            tried,
+            right,
+        } = *self;
+        write!(
+            f,
+            "\nlines {lines}\nplanned {planned}\nrefused {refused}\nblocks {blocks}\nkeys {keys}\nmost tried {tried}\nread back {right}\n"
+        )
+    }
 }

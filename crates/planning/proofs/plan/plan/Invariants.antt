@@ -4,4 +4,4 @@ use Rattle.planning.proofs.Counts.{Planning}
 use Rattle.planning.proofs.plan.plan.Given as goal
 
 abbrev pub invariant-loop-line : goal.invariant-loop-line
-invariant-loop-line l = Planning l.input (string_bytes l.text) l.counts (unread l.line-iterator)
+invariant-loop-line l = Planning l.input (string_bytes l.draft.text) l.draft.counts (unread l.line-iterator)

@@ -2,7 +2,7 @@
 use Rattle.std.proofs.Common.{◌≡◌, ℕ, ◌+◌, ◌<◌, ◌≤◌, Bool, true, false, cond, ◌&&◌, eqb, ltb, ◌≢◌, ◌⊎◌, List, is_some, Some, None, Option, sym, refl, ap, ◌∙◌, ap₂, inl, inr, arith}
 use mathlib.Core.Path.{fun_ext}
 use Rattle.std.proofs.lemmas.Bool.{cases_eq, cases_lt, lt-ltb, le-ltb, and_left, and_right, and_from, cond-false}
-use Rattle.blocks.specs.Blocks.{Placement, Contents, only, changed}
+use Rattle.blocks.specs.Blocks.{Contents, only, changed}
 use Rattle.blocks.proofs.Changes.{changed_here, changed_beside, changed_elsewhere, only_here, only_other}
 use Rattle.ledger.specs.Store.{bytes_at}
 use Rattle.lowers.specs.Lowers.{Holds}
@@ -83,36 +83,37 @@ module _ (board : ℕ → List ℕ) (row : ℕ → Option ℕ) (file : ℕ) (low
 
 -- ---- the walk
 
--- Below, place, size, held, files, width and low are what map, board and lower store meant at the start, and those with 1 what they mean
+-- Below, row, size, held, files, width and low are what map, board and lower store meant at the start, and those with 1 what they mean
 -- before a turn.
-module _ (place place1 : Placement) (size size1 : ℕ) (held held1 : ℕ → List ℕ) (files width : ℕ) (low : Contents) (files1 width1 : ℕ) (bytes1 : Contents)
-    (file n : ℕ) (same_p : place1 ≡ place) (same_s : size1 ≡ size) (same_h : held1 ≡ held)
-    (going : Holds files width (copied_below held (place file) file low n) files1 width1 bytes1) (reach : Reaches (place file) width size) where
+module _ (row row1 : ℕ → Option ℕ) (size size1 : ℕ) (held held1 : ℕ → List ℕ) (files width : ℕ) (low : Contents) (files1 width1 : ℕ) (bytes1 : Contents)
+    (file n : ℕ) (same_row : row1 ≡ row) (same_s : size1 ≡ size) (same_h : held1 ≡ held)
+    (going : Holds files width (copied_below held row file low n) files1 width1 bytes1) (reach : Reaches row width size) where
   -- the copy of the next mapped block is granted
-  pub turn_grants : (b p : ℕ) → file < files → place1 file b ≡ Some p → (file < files1) × (b < width1) × (p < size1)
+  pub turn_grants : (b p : ℕ) → file < files → row1 b ≡ Some p → (file < files1) × (b < width1) × (p < size1)
   turn_grants b p lf e =
-      let r = reach b p (sym (ap (λ (z : Placement). z file b) same_p) ∙ e) in
+      let r = reach b p (sym (ap (λ (z : ℕ → Option ℕ). z b) same_row) ∙ e) in
       let f = going.same_files in
       let w = going.same_width in
       (omega arith, omega (arith, r.0), omega (arith, r.1))
 
-  pub turn_copies : (b p files2 width2 : ℕ) (bytes2 : Contents) → n ≤ b → (place1 file b ≡ Some p) × Hole (place1 file) n b
+  pub turn_copies : (b p n' files2 width2 : ℕ) (bytes2 : Contents) → n ≤ b → (row1 b ≡ Some p) × Hole row1 n b → n' ≡ b + 1
       → Holds files1 width1 (changed bytes1 file (only b) (λ _. held1 p)) files2 width2 bytes2
-      → Holds files width (copied_below held (place file) file low (b + 1)) files2 width2 bytes2
-  turn_copies b p files2 width2 bytes2 l found copy = record {
+      → Holds files width (copied_below held row file low n') files2 width2 bytes2
+  turn_copies b p n' files2 width2 bytes2 l found behind copy = record {
     same_files = copy.same_files ∙ going.same_files;
     same_width = copy.same_width ∙ going.same_width;
     same_bytes = copy.same_bytes
         ∙ ap₂ (λ (z : Contents) (h : ℕ → List ℕ). changed z file (only b) (λ _. h p)) going.same_bytes same_h
-        ∙ copied_next held (place file) file low n b p l (sym (ap (λ (z : Placement). z file b) same_p) ∙ found.0)
-        (λ c x y. sym (ap (λ (z : Placement). z file c) same_p) ∙ found.1 c x y);
+        ∙ copied_next held row file low n b p l (sym (ap (λ (z : ℕ → Option ℕ). z b) same_row) ∙ found.0)
+        (λ c x y. sym (ap (λ (z : ℕ → Option ℕ). z c) same_row) ∙ found.1 c x y)
+        ∙ ap (copied_below held row file low) (sym behind);
   }
 
   -- no mapped block is left
-  pub end_copies : Hole (place1 file) n width → Holds files width (copied held (place file) file low) files1 width1 bytes1
+  pub end_copies : Hole row1 n width → Holds files width (copied held row file low) files1 width1 bytes1
   end_copies hole = record {
     same_files = going.same_files;
     same_width = going.same_width;
     same_bytes = going.same_bytes
-        ∙ copied_all held (place file) file low n width size (λ c x y. sym (ap (λ (z : Placement). z file c) same_p) ∙ hole c x y) reach;
+        ∙ copied_all held row file low n width size (λ c x y. sym (ap (λ (z : ℕ → Option ℕ). z c) same_row) ∙ hole c x y) reach;
   }

@@ -1,5 +1,5 @@
 -- The places of the chosen blocks of a row, and what the pool holds once they are given back.
-use Rattle.std.proofs.Common.{◌≡◌, ℕ, zero, suc, ◌+◌, ◌-◌, ◌<◌, ◌≤◌, Bool, true, false, cond, not, ◌&&◌, eqb, ltb, ◌⊎◌, Some, None, Option, sym, refl, ap, ◌∙◌, ap₂, inl, inr, add-one, arith}
+use Rattle.std.proofs.Common.{◌≡◌, ℕ, zero, suc, ◌+◌, ◌-◌, ◌<◌, ◌≤◌, Bool, true, false, cond, not, ◌&&◌, eqb, ltb, ◌⊎◌, Some, None, Option, sym, refl, ap, ◌∙◌, subst, ap₂, inl, inr, add-one, arith}
 use mathlib.Core.Path.{fun_ext}
 use Rattle.std.proofs.lemmas.Bool.{cases_lt, both_ways, and_right, lt-ltb, cond-true}
 use Rattle.blocks.specs.Blocks.{inside, every}
@@ -113,12 +113,12 @@ module _ (row : ℕ → Option ℕ) (from to : ℕ) where
       (sym a.0, sym a.1)
 
   -- the next block with a place
-  pub gather_more : (n b p : ℕ) (set : ℕ → Bool) (number : ℕ) → from ≤ n → n ≤ b → b < to → p < 4096 → (row b ≡ Some p) × Hole row n b
-      → SoFar row (inside from (to - from)) n set number → SoFar row (inside from (to - from)) (b + 1) (inserted set p) (number + 1)
-  gather_more n b p set number lf ln lb lp at h =
+  pub gather_more : (n b p n' : ℕ) (set : ℕ → Bool) (number : ℕ) → from ≤ n → n ≤ b → b < to → p < 4096 → (row b ≡ Some p) × Hole row n b → n' ≡ b + 1
+      → SoFar row (inside from (to - from)) n set number → SoFar row (inside from (to - from)) n' (inserted set p) (number + 1)
+  gather_more n b p n' set number lf ln lb lp at behind h =
       let a = alike row (inside from (to - from)) n b ln (λ d l m _. at.1 d l m) in
-      found row (inside from (to - from)) b p set number (inside_yes from (to - from) b (omega arith) (omega arith)) at.0 lp
-      (h.0 ∙ sym a.0, h.1 ∙ sym a.1)
+      subst (λ k. SoFar row (inside from (to - from)) k (inserted set p) (number + 1)) (sym behind)
+      (found row (inside from (to - from)) b p set number (inside_yes from (to - from) b (omega arith) (omega arith)) at.0 lp (h.0 ∙ sym a.0, h.1 ∙ sym a.1))
 
   -- no block with a place is left
   pub gather_all : (n : ℕ) (set : ℕ → Bool) (number : ℕ) → Hole row n to → SoFar row (inside from (to - from)) n set number → Gathers row from to set number

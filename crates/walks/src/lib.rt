@@ -2,12 +2,13 @@
 
 #![tactic(auto)]
 
-ghost use Rattle.std.specs.Prelude.{◌≡◌, ◌<◌};
+ghost use Rattle.std.specs.Prelude.{◌≡◌, ◌-◌, ◌<◌};
+ghost use Rattle.std.specs.Iterator.{at_most};
 ghost use Rattle.block_set.specs.Members.{member};
 ghost use Rattle.blocks.specs.Blocks.{changed, only, inside, zero_block};
 ghost use Rattle.lowers.specs.Lowers.{Holds};
 ghost use Rattle.walks.specs.Walks.{MapStays, BoardStays, Reaches, copied, Gathers};
-ghost use Rattle.walks.specs.Steps.{LowestFrom, Within, Lowest};
+ghost use Rattle.walks.specs.Steps.{LowestFrom, Within, Lowest, GoesOn, Gives};
 
 use block_set::BlockSet;
 use blocks::{BLOCK_BYTES, EXTENT_BLOCKS};
@@ -55,12 +56,32 @@ fn next_mapped<M: Map>(map: &mut M, file: u32, from: u32, to: u32) -> Option<Map
     if from + 1 == to {
         return None;
     }
-    let block = lowest_from(map, file, from + 1)?;
-    if block <= from || block >= to {
-        return None;
-    }
+    let block = lowest_from(map, file, from + 1).filter(|block| *block < to)?;
     let board = board_of(map, file, block)?;
     Some(Mapped { block, board })
+}
+
+/// The mapped blocks of a file from `from` on and below `to`, going up.
+#[derive(Drop)]
+struct MappedBlocks<'a, M> {
+    map: &'a mut M,
+    file: u32,
+    from: u32,
+    to: u32,
+}
+
+impl<'a, M: Map> Iterator for MappedBlocks<'a, M> {
+    type Item = Mapped;
+
+    ghost next_gives = { λ s at t. Gives (M.Map.placed s.map.now s.file) s.from s.to at t.from × GoesOn s.map.ghost_name (M.Map.room s.map.now) (M.Map.placed s.map.now) s.file s.to t.map.ghost_name (M.Map.room t.map.now) (M.Map.placed t.map.now) t.file t.to };
+
+    ghost remaining = { λ s. at_most (s.to - s.from) };
+
+    fn next(&mut self) -> Option<Mapped> {
+        let at = next_mapped(self.map, self.file, self.from, self.to)?;
+        self.from = at.block + 1;
+        Some(at)
+    }
 }
 
 /// Copies a board block to a block of a file.
@@ -94,11 +115,14 @@ pub fn copy_down<M: Map, B: Board, L: Lower>(map: &mut M, board: &mut B, lower: 
     ensures board { BoardStays (B.Board.size board.old) (B.Board.block board.old) (B.Board.size board.new) (B.Board.block board.new) }
     ensures map { MapStays (M.Map.room map.old) (M.Map.placed map.old) (M.Map.room map.new) (M.Map.placed map.new) }
 {
-    let width = lower.width();
-    let mut from = 0;
-    while let Some(at) = next_mapped(map, file, from, width) {
+    let mapped = MappedBlocks {
+        map,
+        file,
+        from: 0,
+        to: lower.width(),
+    };
+    for at in mapped {
         copy_block(board, lower, file, at.block, at.board);
-        from = at.block + 1;
     }
 }
 
@@ -116,11 +140,15 @@ pub fn gather<M: Map>(map: &mut M, file: u32, from: u32, to: u32) -> Gathered
 {
     let mut blocks = BlockSet::new();
     let mut count = 0;
-    let mut next = from;
-    while let Some(at) = next_mapped(map, file, next, to) {
+    let mapped = MappedBlocks {
+        map,
+        file,
+        from,
+        to,
+    };
+    for at in mapped {
         blocks.insert(at.board);
         count += 1;
-        next = at.block + 1;
     }
     Gathered { blocks, count }
 }

@@ -100,12 +100,10 @@ pub fn clear_file<L: Lower>(lower: &mut L, file: u32)
     ensures { file < L.Reading.files lower.old → Holds (L.Reading.files lower.old) (L.Reading.width lower.old) (changed (L.Reading.bytes lower.old) file (inside 0 (L.Reading.width lower.old)) (λ _. zero_block)) (L.Reading.files lower.new) (L.Reading.width lower.new) (L.Reading.bytes lower.new) }
 {
     let width = lower.width();
-    let mut first = 0;
-    while first < width {
+    for first in (0..width).step_by(EXTENT_BLOCKS as usize) {
         let n = (width - first).min(EXTENT_BLOCKS);
         // A piece within a file that is there is not refused.
         let _ = lower.clear(file, first, n);
-        first += n;
     }
 }
 

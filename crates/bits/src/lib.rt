@@ -2,23 +2,17 @@
 
 #![tactic(auto)]
 
-ghost use Rattle.std.specs.Prelude.{◌≡◌, ◌-◌, ◌%◌, true, false};
+ghost use Rattle.std.specs.Prelude.{◌≡◌, ◌-◌, ◌%◌};
 ghost use Rattle.bits.specs.Bits.{bit};
 ghost use Rattle.ledger.specs.Free.{first_free};
 ghost use Rattle.ledger.specs.Store.{put};
 
-/// The word with one bit set: the one that `number` names, modulo 64.
-pub fn with_bit(word: u64, number: u32) -> u64
-    ensures { bit result ≡ put (bit word) (number % 64) true }
+/// The word with one bit put to a value: the bit that `number` names, modulo 64.
+pub fn with_bit(word: u64, number: u32, value: bool) -> u64
+    ensures { bit result ≡ put (bit word) (number % 64) value }
 {
-    word | (1 << (number % 64))
-}
-
-/// The word with one bit cleared: the one that `number` names, modulo 64.
-pub fn without_bit(word: u64, number: u32) -> u64
-    ensures { bit result ≡ put (bit word) (number % 64) false }
-{
-    word & !(1 << (number % 64))
+    let mask = 1 << (number % 64);
+    if value { word | mask } else { word & !mask }
 }
 
 /// The lowest zero bit of a word, from the bit on that `from` names, modulo 64; or none.

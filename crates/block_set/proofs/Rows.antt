@@ -1,7 +1,8 @@
 -- One bit of a row of words changed, and the first zero of a row from a bit on.
-use Rattle.std.proofs.Common.{◌≡◌, ℕ, zero, suc, ◌+◌, ◌-◌, ◌*◌, ◌/◌, ◌%◌, ◌<◌, ◌≤◌, Bool, true, false, cond, eqb, List, [], ◌∷◌, length, get_or, set, replicate, Some, None, Option, sym, refl, ap, ◌∙◌, subst, ap₂, inl, inr, arith, get_or-set_other, get_or-set_same}
+use Rattle.std.proofs.Common.{◌≡◌, ℕ, zero, suc, ◌+◌, ◌-◌, ◌*◌, ◌/◌, ◌%◌, ◌<◌, ◌≤◌, Bool, true, false, cond, eqb, ltb, max, List, [], ◌∷◌, length, get_or, set, replicate, Some, None, Option, sym, refl, ap, ◌∙◌, subst, ap₂, inl, inr, arith, get_or-set_other, get_or-set_same}
 use mathlib.Core.Path.{fun_ext}
-use Rattle.std.proofs.lemmas.Bool.{cases_lt, cases_eq, eq-eqb, ne_eqb}
+use Rattle.std.specs.Bool.{then_some}
+use Rattle.std.proofs.lemmas.Bool.{cases_lt, cases_eq, eq-eqb, ne_eqb, lt-ltb, le-ltb}
 use Rattle.bits.specs.Bits.{bit}
 use Rattle.bits.proofs.Single.{bit_zero}
 use Rattle.ledger.specs.Free.{first_free}
@@ -62,37 +63,36 @@ change_one words p w v l e =
 
 -- ---- the search
 
--- the numbers from `next` on that lie in its word
-abbrev pub Word : List ℕ → ℕ → Option ℕ → Type 0
-Word words next None = (q : ℕ) → next ≤ q → q < (next / 64 + 1) * 64 → bit_of words q ≡ true
-Word words next (Some b) = (b < 64) × (next ≤ next / 64 * 64 + b) × (bit_of words (next / 64 * 64 + b) ≡ false)
-    × ((q : ℕ) → next ≤ q → q < next / 64 * 64 + b → bit_of words q ≡ true)
+-- what word w shows of its numbers from `next` on
+abbrev pub Word : List ℕ → ℕ → ℕ → Option ℕ → Type 0
+Word words w next None = (q : ℕ) → next ≤ q → q < (w + 1) * 64 → bit_of words q ≡ true
+Word words w next (Some b) = (b < 64) × (next ≤ w * 64 + b) × (bit_of words (w * 64 + b) ≡ false)
+    × ((q : ℕ) → next ≤ q → q < w * 64 + b → bit_of words q ≡ true)
 
-here : (words : List ℕ) (next q : ℕ) → next / 64 * 64 ≤ q → q < (next / 64 + 1) * 64
-    → bit_of words q ≡ bit (get_or words (next / 64) 0) (q - next / 64 * 64)
+here : (words : List ℕ) (w q : ℕ) → w * 64 ≤ q → q < (w + 1) * 64 → bit_of words q ≡ bit (get_or words w 0) (q - w * 64)
 unfolding bit_of
-here words next q a b =
-    let d : q / 64 ≡ next / 64 = omega arith in
-    let m : q % 64 ≡ q - next / 64 * 64 = omega arith in
+here words w q a b =
+    let d : q / 64 ≡ w = omega arith in
+    let m : q % 64 ≡ q - w * 64 = omega arith in
     ap₂ (λ (x y : ℕ). bit (get_or words x 0) y) d m
 
-pub in_word : (words : List ℕ) (next : ℕ) (o : Option ℕ) → o ≡ first_free (bit (get_or words (next / 64) 0)) (next % 64) (64 - next % 64)
-    → Word words next o
-in_word words next o e = go o (subst (Lowest t (next % 64) (next % 64 + (64 - next % 64))) (sym e) (lowest t (next % 64) (64 - next % 64)))
+pub in_word : (words : List ℕ) (w next : ℕ) (o : Option ℕ) → next / 64 ≡ w → o ≡ first_free (bit (get_or words w 0)) (next % 64) (64 - next % 64)
+    → Word words w next o
+in_word words w next o is e = go o (subst (Lowest t (next % 64) (next % 64 + (64 - next % 64))) (sym e) (lowest t (next % 64) (64 - next % 64)))
   where
     t : ℕ → Bool
-    t = bit (get_or words (next / 64) 0)
+    t = bit (get_or words w 0)
 
-    go : (o : Option ℕ) → Lowest (bit (get_or words (next / 64) 0)) (next % 64) (next % 64 + (64 - next % 64)) o → Word words next o
-    go None f = λ q a b. here words next q (omega arith) (omega arith) ∙ f (q - next / 64 * 64) (omega arith) (omega arith)
+    go : (o : Option ℕ) → Lowest (bit (get_or words w 0)) (next % 64) (next % 64 + (64 - next % 64)) o → Word words w next o
+    go None f = λ q a b. here words w q (omega arith) (omega arith) ∙ f (q - w * 64) (omega arith) (omega arith)
     go (Some b) f =
         let small : b < 64 = omega (arith, f.1) in
-        let low : next ≤ next / 64 * 64 + b = omega (arith, f.0) in
-        let back : next / 64 * 64 + b - next / 64 * 64 ≡ b = omega arith in (
+        let low : next ≤ w * 64 + b = omega (arith, f.0) in
+        let back : w * 64 + b - w * 64 ≡ b = omega arith in (
           small,
           low,
-          here words next (next / 64 * 64 + b) (omega arith) (omega arith) ∙ ap (bit (get_or words (next / 64) 0)) back ∙ f.2,
-          λ q a l. here words next q (omega arith) (omega arith) ∙ f.3 (q - next / 64 * 64) (omega arith) (omega arith),
+          here words w (w * 64 + b) (omega arith) (omega arith) ∙ ap (bit (get_or words w 0)) back ∙ f.2,
+          λ q a l. here words w q (omega arith) (omega arith) ∙ f.3 (q - w * 64) (omega arith) (omega arith),
         )
 
 -- all from one number up to another are ones
@@ -106,5 +106,18 @@ pub found_none : (t : ℕ → Bool) (from to : ℕ) → AllIn t from to → None
 found_none t from to f = lowest_only t from (to - from) None (λ q a b. f q a (omega arith))
 
 -- what was seen before, and what is seen now
-pub joined : (t : ℕ → Bool) (from next to : ℕ) → AllIn t from next → AllIn t next to → AllIn t from to
-joined t from next to f g q a b = elim (cases_lt q next) [ inl l ↦ f q a l | inr l ↦ g q l b ]
+pub joined : (t : ℕ → Bool) (from mid to : ℕ) → AllIn t from mid → ((q : ℕ) → from ≤ q → mid ≤ q → q < to → t q ≡ true) → AllIn t from to
+joined t from mid to f g q a b = elim (cases_lt q mid) [ inl l ↦ f q a l | inr l ↦ g q a l b ]
+
+-- what is told of the lowest zero of word w, where all before the word were seen
+pub told : (words : List ℕ) (from to w next b : ℕ) → next ≡ max from (w * 64) → AllIn (bit_of words) from (w * 64) → Word words w next (Some b)
+    → then_some (ltb (w * 64 + b) to) (w * 64 + b) ≡ first_free (bit_of words) from (to - from)
+told words from to w next b e f h = elim (cases_lt (w * 64 + b) to) [
+  | inl l ↦ ap (λ v. then_some v (w * 64 + b)) (lt-ltb (w * 64 + b) to l)
+      ∙ found_at t from to (w * 64 + b) (omega (arith, h.1)) l h.2 (joined t from (w * 64) (w * 64 + b) f (λ q a m u. h.3 q (omega arith) u))
+  | inr l ↦ ap (λ v. then_some v (w * 64 + b)) (le-ltb (w * 64 + b) to l)
+      ∙ found_none t from to (joined t from (w * 64) to f (λ q a m u. h.3 q (omega arith) (omega arith)))
+]
+  where
+    t : ℕ → Bool
+    t = bit_of words

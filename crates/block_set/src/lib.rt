@@ -2,12 +2,13 @@
 
 #![tactic(auto)]
 
-ghost use Rattle.std.specs.Prelude.{◌≡◌, ◌-◌, min, false};
+ghost use Rattle.std.specs.Prelude.{◌≡◌, ◌-◌, min, true, false, cond, nat_lt};
 ghost use Rattle.ledger.specs.Free.{first_free};
 ghost use Rattle.ledger.specs.Store.{put};
 ghost use Rattle.block_set.specs.Members.{member, none, inserted, without};
 
-use bits::{first_zero, with_bit, without_bit};
+use bits::{first_zero, with_bit};
+use blocks::BOARD_BLOCKS;
 
 /// A set of board numbers below 4,096: the bit of a number is one where the set has it.
 #[derive(Drop)]
@@ -27,19 +28,23 @@ impl BlockSet {
     pub fn insert(&mut self, number: u32)
         ensures { member self.new ≡ inserted (member self.old) number }
     {
-        if number < 4096 {
-            let word = (number / 64) as usize;
-            self.words[word] = with_bit(self.words[word], number);
-        }
+        self.put(number, true);
     }
 
     /// Takes a number out, if it is in.
     pub fn remove(&mut self, number: u32)
         ensures { member self.new ≡ put (member self.old) number false }
     {
-        if number < 4096 {
+        self.put(number, false);
+    }
+
+    /// Puts a number in or takes it out, if it is below 4,096.
+    fn put(&mut self, number: u32, value: bool)
+        ensures { member self.new ≡ cond (nat_lt number 4096) (put (member self.old) number value) (member self.old) }
+    {
+        if number < BOARD_BLOCKS {
             let word = (number / 64) as usize;
-            self.words[word] = without_bit(self.words[word], number);
+            self.words[word] = with_bit(self.words[word], number, value);
         }
     }
 
@@ -47,6 +52,7 @@ impl BlockSet {
     pub fn remove_all(&mut self, others: &BlockSet)
         ensures { member self.new ≡ without (member self.old) (member others.now) }
     {
+        // By the index: after `iter_mut` under `zip` a proof knows nothing of the words.
         for (i, word) in others.words.iter().enumerate() {
             self.words[i] &= !*word;
         }
@@ -58,16 +64,22 @@ impl BlockSet {
     pub fn first_absent(&self, from: u32, to: u32) -> Option<u32>
         ensures { result ≡ first_free (member self.now) from (min to 4096 - from) }
     {
-        let limit = to.min(4096);
-        let mut next = from;
-        while next < limit {
-            let word = next / 64;
+        let limit = to.min(BOARD_BLOCKS);
+        for word in from / 64..limit.div_ceil(64) {
+            let next = from.max(word * 64);
             if let Some(bit) = first_zero(self.words[word as usize], next) {
                 let number = word * 64 + bit;
-                return if number < limit { Some(number) } else { None };
+                return (number < limit).then_some(number);
             }
-            next = (word + 1) * 64;
         }
         None
+    }
+}
+
+impl Default for BlockSet {
+    ghost is_default = { λ set. member set ≡ none };
+
+    fn default() -> Self {
+        BlockSet::new()
     }
 }

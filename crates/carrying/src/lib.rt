@@ -2,7 +2,7 @@
 
 #![tactic(auto)]
 
-ghost use Rattle.std.specs.Prelude.{◌≡◌, ◌+◌, ◌-◌, ◌*◌, ◌<◌, ◌≤◌, min, length};
+ghost use Rattle.std.specs.Prelude.{◌≡◌, ◌+◌, ◌-◌, ◌*◌, ◌<◌, ◌≤◌, ◌==◌, min, not, length, count_by, zip};
 ghost use Rattle.lowers.specs.Lowers.{Holds};
 ghost use Rattle.carrying.specs.Carrying.{file_carried, blocks_carried, all_carried, differing};
 
@@ -18,11 +18,12 @@ pub struct Summary {
 /// Carries the first `width` blocks of one file, as far as both sides reach, and tells how many it carried.
 fn carry_file<S: Reading, T: Lower>(source: &mut S, target: &mut T, file: u32, width: u32) -> u32
     ensures few { result ≤ width }
-    ensures count { S.Reading.valid source.old → T.Reading.valid target.old → result ≡ blocks_carried (min (S.Reading.files source.old) (T.Reading.files target.old)) (min (S.Reading.width source.old) (T.Reading.width target.old)) file width }
-    ensures target { S.Reading.valid source.old → T.Reading.valid target.old → Holds (T.Reading.files target.old) (T.Reading.width target.old) (file_carried (min (S.Reading.files source.old) (T.Reading.files target.old)) (min (S.Reading.width source.old) (T.Reading.width target.old)) (S.Reading.bytes source.old) file width (T.Reading.bytes target.old)) (T.Reading.files target.new) (T.Reading.width target.new) (T.Reading.bytes target.new) (T.Reading.valid target.new) }
-    ensures source { S.Reading.valid source.old → T.Reading.valid target.old → Holds (S.Reading.files source.old) (S.Reading.width source.old) (S.Reading.bytes source.old) (S.Reading.files source.new) (S.Reading.width source.new) (S.Reading.bytes source.new) (S.Reading.valid source.new) }
+    ensures count { result ≡ blocks_carried (min (S.Reading.files source.old) (T.Reading.files target.old)) (min (S.Reading.width source.old) (T.Reading.width target.old)) file width }
+    ensures target { Holds (T.Reading.files target.old) (T.Reading.width target.old) (file_carried (min (S.Reading.files source.old) (T.Reading.files target.old)) (min (S.Reading.width source.old) (T.Reading.width target.old)) (S.Reading.bytes source.old) file width (T.Reading.bytes target.old)) (T.Reading.files target.new) (T.Reading.width target.new) (T.Reading.bytes target.new) }
+    ensures source { Holds (S.Reading.files source.old) (S.Reading.width source.old) (S.Reading.bytes source.old) (S.Reading.files source.new) (S.Reading.width source.new) (S.Reading.bytes source.new) }
 {
     let mut carried = 0;
+    // A loop and no chain: its step changes both sides.
     for block in 0..width {
         if carry(source, target, file, block).is_ok() {
             carried += 1;
@@ -33,10 +34,10 @@ fn carry_file<S: Reading, T: Lower>(source: &mut S, target: &mut T, file: u32, w
 
 /// Carries every block of the source that the target has a place for, and counts these and the others.
 pub fn carry_all<S: Reading, T: Lower>(source: &mut S, target: &mut T) -> Summary
-    ensures carried { S.Reading.valid source.old → T.Reading.valid target.old → result.carried ≡ (min (S.Reading.files source.old) (T.Reading.files target.old)) * (min (S.Reading.width source.old) (T.Reading.width target.old)) }
-    ensures refused { S.Reading.valid source.old → T.Reading.valid target.old → result.carried + result.refused ≡ (S.Reading.files source.old) * (S.Reading.width source.old) }
-    ensures target { S.Reading.valid source.old → T.Reading.valid target.old → Holds (T.Reading.files target.old) (T.Reading.width target.old) (all_carried (min (S.Reading.files source.old) (T.Reading.files target.old)) (min (S.Reading.width source.old) (T.Reading.width target.old)) (S.Reading.bytes source.old) (T.Reading.bytes target.old)) (T.Reading.files target.new) (T.Reading.width target.new) (T.Reading.bytes target.new) (T.Reading.valid target.new) }
-    ensures source { S.Reading.valid source.old → T.Reading.valid target.old → Holds (S.Reading.files source.old) (S.Reading.width source.old) (S.Reading.bytes source.old) (S.Reading.files source.new) (S.Reading.width source.new) (S.Reading.bytes source.new) (S.Reading.valid source.new) }
+    ensures carried { result.carried ≡ (min (S.Reading.files source.old) (T.Reading.files target.old)) * (min (S.Reading.width source.old) (T.Reading.width target.old)) }
+    ensures refused { result.carried + result.refused ≡ (S.Reading.files source.old) * (S.Reading.width source.old) }
+    ensures target { Holds (T.Reading.files target.old) (T.Reading.width target.old) (all_carried (min (S.Reading.files source.old) (T.Reading.files target.old)) (min (S.Reading.width source.old) (T.Reading.width target.old)) (S.Reading.bytes source.old) (T.Reading.bytes target.old)) (T.Reading.files target.new) (T.Reading.width target.new) (T.Reading.bytes target.new) }
+    ensures source { Holds (S.Reading.files source.old) (S.Reading.width source.old) (S.Reading.bytes source.old) (S.Reading.files source.new) (S.Reading.width source.new) (S.Reading.bytes source.new) }
 {
     let width = source.width();
     let mut carried = 0;
@@ -53,11 +54,15 @@ pub fn carry_all<S: Reading, T: Lower>(source: &mut S, target: &mut T) -> Summar
 pub fn bytes_differing(left: &[u8], right: &[u8]) -> usize
     ensures { result ≡ differing (min (length left.now) (length right.now)) left.now right.now }
 {
-    let mut count = 0;
-    for i in 0..left.len().min(right.len()) {
-        if left[i] != right[i] {
-            count += 1;
-        }
-    }
-    count
+    pairs_differing(left, right)
+}
+
+/// How many pairs of bytes at the same place are of two that differ.
+fn pairs_differing(left: &[u8], right: &[u8]) -> usize
+    ensures { result ≡ count_by (λ p. not (p.0 == p.1)) (zip left.now right.now) }
+{
+    left.iter()
+        .zip(right.iter())
+        .filter(|(l, r)| **l != **r)
+        .count()
 }

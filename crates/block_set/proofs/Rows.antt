@@ -1,8 +1,9 @@
 -- One bit of a row of words changed, and the first zero of a row from a bit on.
-use Rattle.std.proofs.Common.{◌≡◌, ℕ, zero, suc, ◌+◌, ◌-◌, ◌*◌, ◌/◌, ◌%◌, ◌<◌, ◌≤◌, Bool, true, false, cond, eqb, ltb, max, List, [], ◌∷◌, length, get_or, set, replicate, Some, None, Option, sym, refl, ap, ◌∙◌, subst, ap₂, inl, inr, arith, get_or-set_other, get_or-set_same}
+use Rattle.std.proofs.Common.{◌≡◌, ℕ, zero, suc, ◌+◌, ◌-◌, ◌*◌, ◌/◌, ◌%◌, ◌<◌, ◌≤◌, Bool, true, false, cond, eqb, ltb, max, List, length, get_or, set, replicate, Some, None, Option, sym, refl, ap, ◌∙◌, subst, ap₂, inl, inr, arith, get_or-set_other, get_or-set_same}
 use mathlib.Core.Path.{fun_ext}
 use Rattle.std.specs.Bool.{then_some}
 use Rattle.std.proofs.lemmas.Bool.{cases_lt, cases_eq, eq-eqb, ne_eqb, lt-ltb, le-ltb}
+use Rattle.std.proofs.lemmas.List.{get_or_past}
 use Rattle.bits.specs.Bits.{bit}
 use Rattle.bits.proofs.Single.{bit_zero}
 use Rattle.ledger.specs.Free.{first_free}
@@ -22,15 +23,10 @@ pub none_of_zeros : (n : ℕ) → bit_of (replicate n 0) ≡ none
 unfolding bit_of
 none_of_zeros n = fun_ext (λ i. ap (λ (w : ℕ). bit w (i % 64)) (nothing n (i / 64)) ∙ bit_zero (i % 64))
 
-past : (words : List ℕ) (i : ℕ) → length words ≤ i → get_or words i 0 ≡ 0
-past [] i l = refl
-past (w ∷ words) zero l = absurd (omega arith)
-past (w ∷ words) (suc i) l = past words i (omega arith)
-
 -- past the last word no bit is one,
 pub none_past : (words : List ℕ) (i : ℕ) → length words ≤ i / 64 → bit_of words i ≡ false
 unfolding bit_of
-none_past words i l = ap (λ (w : ℕ). bit w (i % 64)) (past words (i / 64) l) ∙ bit_zero (i % 64)
+none_past words i l = ap (λ (w : ℕ). bit w (i % 64)) (get_or_past words (i / 64) 0 l) ∙ bit_zero (i % 64)
 
 -- so that none there can be cleared
 pub clear_past : (words : List ℕ) (p : ℕ) → length words ≤ p / 64 → bit_of words ≡ put (bit_of words) p false

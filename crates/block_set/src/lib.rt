@@ -11,6 +11,7 @@ use bits::{first_zero, with_bit};
 use blocks::BOARD_BLOCKS;
 
 /// A set of board numbers below 4,096: the bit of a number is one where the set has it.
+// Its clauses read it by `member`, a function on numbers, which the value of a model can't be.
 #[derive(Drop)]
 pub struct BlockSet {
     words: [u64; 64],

@@ -60,6 +60,7 @@ impl Iterator for Walk {
 
     ghost remaining = { λ w. at_most (w.end - w.«at») };
 
+    #[tactic(auto, using(extents::proofs::Sizes::next_piece))]
     fn next(&mut self) -> Option<Key> {
         if self.at >= self.end {
             return None;

@@ -1,11 +1,12 @@
--- Straight extentes and keys: parts, meetings, and the run that decides them.
+-- Straight extents and keys: parts, meetings, and the run that decides them.
 use Rattle.std.proofs.Common.{◌≡◌, ℕ, zero, suc, ◌+◌, ◌-◌, ◌^◌, ◌<◌, ◌≤◌, true, false, cond, eqb, ◌⊎◌, Some, None, Option, sym, refl, ap, ◌∙◌, subst, inl, inr, arith, pow_pos}
 use Rattle.std.proofs.lemmas.Bool.{cases_lt, cases_Bool, eqb-true, eq-eqb, cond-true, cond-false}
+use Rattle.std.proofs.lemmas.Option.{none-some}
 use Rattle.extents.specs.Extents.{FileMap, Multiple, Straight, IsKey, trunc, rises, join}
 use Rattle.extents.proofs.Grid.{nested, trunc_multiple, trunc_le, trunc_lt, trunc_only}
 
 pub some-none {ℓ} : {X : Type 0} {Y : Type ℓ} (o : Option X) (x : X) → o ≡ Some x → o ≡ None → Y
-some-none o x p q = let z : ◌≡◌ {A = ℕ} 0 1 = cc in let e : ⊥ = omega arith in absurd e
+some-none o x p q = absurd (none-some x (sym q ∙ p))
 
 pub known : {X : Type 0} (o : Option X) → (o ≡ None) ⊎ ((x : X) × (o ≡ Some x))
 known None = inl refl

@@ -1,5 +1,5 @@
 -- Blocks that leave the map, and their board blocks that are given back.
-use Rattle.std.proofs.Common.{◌≡◌, ℕ, ◌+◌, ◌-◌, ◌<◌, ◌≤◌, Bool, true, false, cond, ltb, Some, None, Ok, Err, Option, Result, sym, refl, ap, ◌∙◌, ap₂, ◌⊎◌, inl, inr, arith}
+use Rattle.std.proofs.Common.{◌≡◌, ℕ, ◌+◌, ◌-◌, ◌<◌, ◌≤◌, Bool, true, false, cond, ltb, Some, None, Ok, Err, Option, Result, sym, refl, ap, ◌∙◌, subst, ap₂, ◌⊎◌, inl, inr, arith}
 use mathlib.Core.Path.{fun_ext}
 use Rattle.std.proofs.lemmas.Bool.{cases_lt, cases_eq}
 use Rattle.std.proofs.lemmas.Bool.Decides.{nat_tests}
@@ -11,8 +11,8 @@ use Rattle.blocks.proofs.Changes.{changed_here, changed_elsewhere}
 use Rattle.block_set.specs.Members.{without}
 use Rattle.ledger.specs.Store.{placed, freed}
 use Rattle.maps.specs.Steps.{Outcome, fault_of, clear_step, ground_of_extent, forget_step, ground_of_file, forgotten, if_room, unless_ground}
-use Rattle.walks.specs.Walks.{Gathers, places}
-use Rattle.walks.proofs.Places.{freed_extent, freed_file, placed_file}
+use Rattle.walks.specs.Walks.{Gathers}
+use Rattle.walks.proofs.Places.{gathered_extent, gathered_file}
 use Rattle.claims.specs.Leaves.{Vacated, vacate_step, leaving, unless_refused, LeftFile, leave_file}
 
 module _ (rule : Placement → ℕ) (room : ℕ) (t : ℕ → Bool) (pl pl₁ q : Placement) (room₁ file first n : ℕ) (told : Result (Unit {0}) Fault)
@@ -39,15 +39,8 @@ module _ (rule : Placement → ℕ) (room : ℕ) (t : ℕ → Bool) (pl pl₁ q 
     within = let e = admitted in grind (arith, nat_tests)
 
     module _ (set : ℕ → Bool) (to number : ℕ) (et : to ≡ first + n) (found : Gathers (pl file) first to set number) where
-      counted : number ≡ placed (pl file) (inside first n) (first + n)
-      counted =
-          let m : to - first ≡ n = omega arith in
-          found.counts ∙ ap₂ (λ (k j : ℕ). placed (pl file) (inside first k) j) m et
-
-      given : without t set ≡ freed t (pl file) (inside first n) (first + n)
-      given =
-          let m : to - first ≡ n = omega arith in
-          ap (without t) (found.collects ∙ ap₂ (λ (k j : ℕ). places (pl file) (inside first k) j) m et) ∙ sym (freed_extent t (pl file) first n (first + n) (omega arith))
+      gathered : (freed t (pl file) (inside first n) (first + n) ≡ without t set) × (placed (pl file) (inside first n) (first + n) ≡ number)
+      gathered = gathered_extent t (pl file) first n (first + n) set number (omega arith) (subst (λ k. Gathers (pl file) first k set number) et found)
 
       -- the map has granted it
       pub leaves : (t' : ℕ → Bool) → t' ≡ without t set → ◌≡◌ {A = Vacated} (Ok number, t', q) (vacate_step rule room t pl file first n)
@@ -61,7 +54,7 @@ module _ (rule : Placement → ℕ) (room : ℕ) (t : ℕ → Bool) (pl pl₁ q 
           go true k =
               let d : ◌≡◌ {A = Result (Unit {0}) Fault} (Ok u) (Err (fault_of TooManyKeys file first)) = sym granted ∙ ap (λ (x : Outcome). x.0) k in
               let z : ◌≡◌ {A = ℕ} 0 1 = cc in absurd (omega arith)
-          go false k = λ i. (Ok (counted i), (h ∙ given) i, ap (λ (x : Outcome). x.1) k i)
+          go false k = λ i. (Ok (sym gathered.1 i), (h ∙ sym gathered.0) i, ap (λ (x : Outcome). x.1) k i)
 
 -- within the numbers no ground refuses it
 pub vacates_within : (rule : Placement → ℕ) (room : ℕ) (t : ℕ → Bool) (pl : Placement) (file first n : ℕ) → file < 65536 → first + n ≤ 65536 → 0 < n → n ≤ 4096
@@ -85,11 +78,8 @@ pub leaves_file : (t t' set : ℕ → Bool) (pl pl₁ q : Placement) (file width
     → Gathers (pl file) 0 width set number → ◌≡◌ {A = Outcome} (told, q) (forget_step pl₁ file) → t' ≡ without t set
     → ◌≡◌ {A = LeftFile} (number, t', q) (leave_file t pl file width)
 leaves_file t t' set pl pl₁ q file width number told es free found step h =
-    let m : width - 0 ≡ width = omega arith in
-    let counted : number ≡ placed (pl file) every width = found.counts ∙ ap (λ (k : ℕ). placed (pl file) (inside 0 k) width) m ∙ sym (placed_file (pl file) width) in
-    let given : t' ≡ freed t (pl file) every width =
-    h ∙ ap (without t) (found.collects ∙ ap (λ (k : ℕ). places (pl file) (inside 0 k) width) m) ∙ sym (freed_file t (pl file) width) in
-    λ i. (counted i, given i, gone (cases_lt file 65536) i)
+    let gathered = gathered_file t (pl file) width set number found in
+    λ i. (sym gathered.1 i, (h ∙ sym gathered.0) i, gone (cases_lt file 65536) i)
   where
     stepped : (o : Option Ground) → ground_of_file file ≡ o → ◌≡◌ {A = Outcome} (told, q) (unless_ground o pl file 0 (Ok tt, forgotten pl file))
     stepped o e = step ∙ ap (λ (w : Placement). forget_step w file) es ∙ ap (λ (o : Option Ground). unless_ground o pl file 0 (Ok tt, forgotten pl file)) e

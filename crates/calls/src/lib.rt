@@ -11,7 +11,7 @@ use faults::Fault;
 /// A call of a store. A write and a read bring a buffer besides.
 #[derive(Clone, Copy, PartialEq, Eq, Debug)]
 pub enum Call {
-    /// mark 1 keeps the block on the board, mark 0 leaves it to the lower store
+    /// mark 1 keeps the block on the board, mark 0 leaves it to the lower store; a number, since the store refuses others
     Write { file: u32, block: u32, mark: u32 },
     Read { file: u32, block: u32 },
     /// the n blocks from the first on
@@ -59,8 +59,7 @@ impl StoreFault {
         ensures { result ≡ fault_in self }
     {
         match self {
-            StoreFault::Own(fault) => fault,
-            StoreFault::FromMap(fault) => fault,
+            StoreFault::Own(fault) | StoreFault::FromMap(fault) => fault,
         }
     }
 }

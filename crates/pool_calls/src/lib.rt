@@ -32,9 +32,8 @@ pub fn enter_two<M: Map>(
     other: u32,
     size: u32,
 ) -> Option<u32>
-    ensures kept { M.Map.valid map.old → M.Map.valid map.new }
     ensures room { M.Map.room map.new ≡ M.Map.room map.old }
-    ensures step { M.Map.valid map.old → ◌≡◌ {A = Told} (result, taken_in pool.new, M.Map.placed map.new) (two_entered M.Map.rule (M.Map.room map.old) size file block other (taken_in pool.old) (M.Map.placed map.old)) }
+    ensures step { ◌≡◌ {A = Told} (result, taken_in pool.new, M.Map.placed map.new) (two_entered M.Map.rule (M.Map.room map.old) size file block other (taken_in pool.old) (M.Map.placed map.old)) }
 {
     let first = pool.take(block, size)?;
     pool.settle(first.enter(map, file, block)).ok()?;

@@ -1,5 +1,5 @@
 -- Counts that grow block by block and line by line.
-use Rattle.std.proofs.Common.{◌≡◌, ℕ, zero, suc, ◌+◌, ◌-◌, ◌*◌, ◌^◌, ◌<◌, ◌≤◌, max, Bool, true, false, eqb, ◌⊎◌, List, [], ◌∷◌, ◌++◌, length, Some, None, Ok, Err, Option, Result, unwrap_or, sym, refl, ap, ◌∙◌, subst, inl, inr, add-one, arith, length-drop}
+use Rattle.std.proofs.Common.{◌≡◌, ℕ, zero, suc, ◌+◌, ◌-◌, ◌*◌, ◌^◌, ◌<◌, ◌≤◌, max, Bool, true, false, eqb, ◌⊎◌, List, [], ◌∷◌, ◌++◌, length, Some, None, Ok, Err, Option, Result, unwrap_or, sym, refl, ap, ◌∙◌, subst, inl, inr, add-one, arith}
 use Rattle.std.proofs.lemmas.Bool.{cases_lt, eq-eqb}
 use Rattle.std.proofs.lemmas.Bool.Decides.{nat_tests}
 use Rattle.std.specs.Int.{from_bool}
@@ -11,12 +11,11 @@ use Rattle.extents.specs.Runs.{run_map, ground_of_run, piece, walk, table_of}
 use Rattle.extents.proofs.Greed.{walk_done, walk_more}
 use Rattle.extents.proofs.OneRun.{run_here, run_keys, run_reads}
 use Rattle.faults.specs.declared.Ground.{Ground}
-use Rattle.lines.specs.declared.LineReader.{LineReader}
-use Rattle.lines.specs.Lines.{before, behind, fields, lines, unread}
+use Rattle.lines.specs.Lines.{before, behind, fields, lines}
 use Rattle.lines.proofs.Steps.{rest_shorter, lines_none, lines_more}
 use Rattle.planning.specs.declared.summary.Run.{Run}
 use Rattle.planning.specs.declared.summary.Summary.{Summary}
-use Rattle.planning.specs.Plans.{is_at, right_in, most_tried, Room, run_in_line, admitted, asked, outcome, keys_of, line_text, lines_text, counted, nothing, counted_from, summary_of}
+use Rattle.planning.specs.Plans.{is_at, right_in, most_tried, run_in_line, admitted, asked, outcome, keys_of, line_text, lines_text, counted, nothing, counted_from, summary_of}
 use Rattle.planning.proofs.Texts.{lines_next, lines_done}
 
 -- what is counted of the first i blocks
@@ -94,12 +93,6 @@ pub record Bounded (s : Summary) : Type 0 where
 bounded_start : Bounded nothing
 bounded_start = record { planned = omega arith; refused = omega arith; blocks = omega arith; keys = omega arith; right = refl }
 
-pub bounded_room : (s : Summary) → Bounded s → s.lines < 2 ^ 32 → Room s
-bounded_room s b l =
-    let r = b.right in
-    let k = b.blocks in
-    record { lines = l; planned = b.planned; refused = b.refused; blocks = b.blocks; keys = b.keys; right = omega arith }
-
 bounded_next : (s : Summary) (o : Option Run) → Bounded s → Bounded (counted s (asked o))
 bounded_next s None b =
     let p = b.planned in
@@ -151,19 +144,7 @@ pub record Planning (input text : List ℕ) (counts : Summary) (rest : List ℕ)
   pub few : counts.lines + length rest ≤ length input
   pub short : length input < 2 ^ 32
 
-pub planning_start : (input text rest : List ℕ) (counts : Summary) → length input < 2 ^ 32 → text ≡ [] → rest ≡ input → counts ≡ nothing → Planning input text counts rest
-planning_start input text rest counts short t r c = record {
-  texts = ap (λ x. x ++ lines_text (lines rest)) t ∙ ap (λ x. lines_text (lines x)) r;
-  counts_are = ap (λ x. counted_from x (lines rest)) c ∙ ap (λ x. summary_of (lines x)) r;
-  bounded = subst Bounded (sym c) bounded_start;
-  few = let a = ap (λ s. s.lines) c in let b = ap length r in omega arith;
-  short = short;
-}
-
 module _ (input text : List ℕ) (counts : Summary) (rest : List ℕ) (h : Planning input text counts rest) where
-  pub planning_room : 0 < length rest → Room counts
-  planning_room l = let f = h.few in let s = h.short in bounded_room counts h.bounded (omega arith)
-
   pub planning_next : (line rest' text' : List ℕ) (counts' : Summary) → 0 < length rest → line ≡ before 10 rest → rest' ≡ unwrap_or (behind 10 rest) []
       → text' ≡ text ++ line_text (outcome line) → counts' ≡ counted counts (outcome line) → Planning input text' counts' rest'
   unfolding counted_from

@@ -136,3 +136,8 @@ plan_text ls = lines_text ls ++ summary_text (summary_of ls)
 abbrev pub Failed : ℕ → PlanError → Type 0
 Failed n TooLong = 2 ^ 32 ≤ n
 Failed n NoMemory = n < 2 ^ 32
+
+-- what is said of it
+abbrev pub failure_text : PlanError → List ℕ
+failure_text TooLong = codes "the input has 4 GiB or more"
+failure_text NoMemory = codes "there is not enough memory"

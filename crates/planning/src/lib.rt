@@ -3,4 +3,5 @@
 #![tactic(auto)]
 
 pub mod plan;
+mod planned;
 pub mod summary;

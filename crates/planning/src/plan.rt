@@ -1,31 +1,41 @@
 //! The plan of a text of runs, one a line.
 
-ghost use Rattle.std.specs.Prelude.{◌≡◌, ◌+◌, ◌*◌, ◌≤◌, ◌++◌, length, Some, Ok, string_bytes, MatchResult, OnOk};
-ghost use Rattle.lines.specs.Lines.{fields, lines};
-ghost use Rattle.extents.specs.Runs.{table_of};
+ghost use Rattle.std.specs.Prelude.{◌≡◌, ◌++◌, length, Some, string_bytes, MatchResult, OnOk};
+ghost use Rattle.lines.specs.Lines.{lines};
 ghost use Rattle.planning.specs.declared.plan.PlanError.TheVariants.{NoMemory};
-ghost use Rattle.planning.specs.Plans.{run_in_line, outcome, keys_text, line_text, right_in, most_tried, Room, InRange, NoKeys, keys_of, counted, summary_of, plan_text, Failed};
+ghost use Rattle.planning.specs.Plans.{outcome, keys_text, line_text, Room, counted, summary_of, plan_text, failure_text, Failed};
 
-use crate::summary::{Run, Summary};
+use crate::planned::PlannedRun;
+use crate::summary::Summary;
 use extents::key::Key;
-use faults::Ground;
-use lines::{LineReader, fields_of};
-use look_ups::look_up;
-use run_keys::run::{RunError, keys_of_run};
+use lines::LineReader;
+use run_keys::run::RunError;
 use std::alloc::{AllocError, Global};
+use std::error::Error;
+use std::fmt;
 use std::fmt::Write;
-use thiserror::Error;
 
 /// Why a text has no plan.
-#[derive(Clone, Copy, PartialEq, Eq, Debug, Error)]
+#[derive(Clone, Copy, PartialEq, Eq, Debug)]
 pub enum PlanError {
     /// The text has 2^32 bytes or more.
-    #[error("the input has 4 GiB or more")]
     TooLong,
     /// No memory was found.
-    #[error("there is not enough memory")]
     NoMemory,
 }
+
+impl fmt::Display for PlanError {
+    ghost output = { λ error. Some (failure_text error) };
+
+    fn fmt<W: fmt::Write>(&self, f: &mut fmt::Formatter<W>) -> fmt::Result {
+        match self {
+            PlanError::TooLong => write!(f, "the input has 4 GiB or more"),
+            PlanError::NoMemory => write!(f, "there is not enough memory"),
+        }
+    }
+}
+
+impl Error for PlanError {}
 
 impl From<AllocError> for PlanError {
     ghost from_gives = { λ _ r. r ≡ NoMemory };
@@ -49,14 +59,14 @@ impl Draft {
         ensures text { OnOk result (string_bytes self.new.text ≡ string_bytes self.old.text ++ line_text (outcome line.now)) }
         ensures counts { OnOk result (self.new.counts ≡ counted self.old.counts (outcome line.now)) }
     {
-        match keys_in(heap, line) {
-            Ok((run, keys)) => {
-                write_keys(&mut self.text, &keys)?;
-                self.counts = count_run(self.counts, run, &keys);
+        match PlannedRun::of_line(heap, line) {
+            Ok(planned) => {
+                write_keys(&mut self.text, &planned.keys)?;
+                self.counts = planned.counted(self.counts);
             }
             Err(RunError::Unadmitted(ground)) => {
                 let number = ground.number();
-                write!(self.text, "no {number}\n")?;
+                writeln!(self.text, "no {number}")?;
                 self.counts.lines += 1;
                 self.counts.refused += 1;
             }
@@ -76,78 +86,9 @@ fn write_keys(text: &mut String, keys: &[Key]) -> Result<(), AllocError>
             length,
             board,
         } = *key;
-        write!(text, "key {start} length {length} board {board}\n")?;
+        writeln!(text, "key {start} length {length} board {board}")?;
     }
     Ok(())
-}
-
-/// How a run reads back.
-#[derive(Clone, Copy)]
-struct ReadBack {
-    right: u32,
-    tried: u32,
-}
-
-/// Looks every block of a run up over some keys.
-fn read_back(keys: &Vec<Key>, run: Run) -> ReadBack
-    requires { InRange run }
-    ensures right { result.right ≡ right_in (table_of keys.now.items) run.first run.board run.blocks }
-    ensures tried { result.tried ≡ most_tried (table_of keys.now.items) run.first run.blocks }
-    ensures bound { result.right ≤ run.blocks }
-{
-    let Run {
-        first,
-        blocks,
-        board,
-    } = run;
-    let mut right = 0;
-    let mut tried: u32 = 0;
-    for i in 0..blocks {
-        let found = look_up(keys, (first + i) as u16);
-        right += u32::from(found.board == Some(board + i));
-        tried = tried.max(found.tried);
-    }
-    ReadBack { right, tried }
-}
-
-/// The run that a line has the numbers of.
-fn run_in(line: &[u8]) -> Option<Run>
-    ensures { result ≡ run_in_line (fields 3 (Some line.now)) }
-{
-    let [first, blocks, board] = fields_of::<3>(Some(line))?;
-    Some(Run {
-        first,
-        blocks,
-        board,
-    })
-}
-
-/// The run that a line asks for, and its keys.
-fn keys_in(heap: Global, line: &[u8]) -> Result<(Run, Vec<Key>), RunError>
-    ensures { MatchResult result (λ p. (outcome line.now ≡ Ok p.0) × InRange p.0 × (p.1.items ≡ keys_of p.0)) (NoKeys (outcome line.now)) }
-{
-    let run = run_in(line).ok_or(Ground::Line)?;
-    let keys = keys_of_run(heap, run.first, run.blocks, run.board)?;
-    Ok((run, keys))
-}
-
-/// Counts a run that was planned.
-fn count_run(counts: Summary, run: Run, keys: &Vec<Key>) -> Summary
-    requires room { Room counts }
-    requires in_range { InRange run }
-    requires keys { keys.now.items ≡ keys_of run }
-    ensures { result ≡ counted counts (Ok run) }
-{
-    let back = read_back(keys, run);
-    Summary {
-        lines: counts.lines + 1,
-        planned: counts.planned + 1,
-        refused: counts.refused,
-        blocks: counts.blocks + u64::from(run.blocks),
-        keys: counts.keys + keys.len() as u64,
-        tried: counts.tried.max(back.tried),
-        right: counts.right + u64::from(back.right),
-    }
 }
 
 /// The answers to the lines of a text, and what was counted over them.

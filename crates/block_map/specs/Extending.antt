@@ -10,7 +10,7 @@ use Rattle.blocks.proofs.Sums.{tally_change}
 use Rattle.tables.specs.declared.row.Row.{Row}
 use Rattle.tables.specs.Holding.{Holding, Numbered, full, lowest_row}
 use Rattle.tables.proofs.Looks.{room_new}
-use Rattle.tables.proofs.Lowest.{lowest_when_some}
+use Rattle.tables.proofs.Lowest.{Lowest, lowest_when_some}
 use Rattle.block_map.specs.BlockKeys.{Free, single}
 
 -- Two that agree on one file and on all others are the same.
@@ -53,6 +53,15 @@ extend {X} h file first i g x s = file_ext (changed k file (only (first + i)) (�
         ∙ changed_beside h file (inside first i) g b (inside_after first i b m)
         ∙ sym (changed_beside h file (inside first (i + 1)) g b (inside_after first (i + 1) b (omega arith)))
 
+-- The same, where the block is given.
+pub extend_at : {X : Type 0} (h : ℕ → ℕ → X) (file first block : ℕ) (g : ℕ → X) → first ≤ block
+    → changed (changed h file (inside first (block - first)) g) file (only block) (λ _. g block) ≡ changed h file (inside first (block + 1 - first)) g
+extend_at {X} h file first block g l =
+    let i = block - first in
+    ap (λ (z : ℕ). changed (changed h file (inside first i) g) file (only z) (λ _. g z)) (let q : block ≡ first + i = omega arith in q)
+    ∙ extend h file first i g (g (first + i)) refl
+    ∙ ap (λ (z : ℕ). changed h file (inside first z) g) (let q : i + 1 ≡ block + 1 - first = omega arith in q)
+
 -- An extent of no block changes nothing.
 pub extend_none : {X : Type 0} (h : ℕ → ℕ → X) (file first : ℕ) (g : ℕ → X) → h ≡ changed h file (inside first 0) g
 extend_none h file first g = file_ext h (changed h file (inside first 0) g) file (λ b. at b (cases_lt b first))
@@ -85,74 +94,69 @@ tally_run {X} h file first (suc n) g lf ln free s =
 -- ---- one turn of each loop
 
 -- A key is entered, since there is room.
-pub put_next : (h0 h h' : Holding) (places places' file first n board i : ℕ) (r : Bool) → file < 65536 → first + n ≤ 65536 → i < n
+pub put_next : (h0 h h' : Holding) (places places' file first n board block : ℕ) (r : Bool) → file < 65536 → first + n ≤ 65536 → first ≤ block → block < first + n
     → Free (h0 file) first n → tally h0 + n ≤ places → places' ≡ places
-    → h ≡ changed h0 file (inside first i) (single first board)
-    → r ≡ not (full h places' file (first + i))
-    → h' ≡ cond r (changed h file (only (first + i)) (λ _. Some (record { length = 1; board = board + i }))) h
-    → h' ≡ changed h0 file (inside first (i + 1)) (single first board)
-put_next h0 h h' places places' file first n board i r lf ln li free room same e answer after =
-    let count : tally h ≡ tally h0 + i =
-    ap (λ (z : Holding). tally z) e ∙ tally_run h0 file first i (single first board) lf (omega arith) (λ b l m. free b l (omega arith)) (λ b. refl) in
-    let yes : r ≡ true = answer ∙ not_from_false (full h places' file (first + i)) (room_new h places' file (first + i) (omega arith)) in
+    → h ≡ changed h0 file (inside first (block - first)) (single first board)
+    → r ≡ not (full h places' file block)
+    → h' ≡ cond r (changed h file (only block) (λ _. single first board block)) h
+    → h' ≡ changed h0 file (inside first (block + 1 - first)) (single first board)
+put_next h0 h h' places places' file first n board block r lf ln lb li free room same e answer after =
+    let count : tally h ≡ tally h0 + (block - first) =
+    ap (λ (z : Holding). tally z) e ∙ tally_run h0 file first (block - first) (single first board) lf (omega arith) (λ b l m. free b l (omega arith)) (λ b. refl) in
+    let yes : r ≡ true = answer ∙ not_from_false (full h places' file block) (room_new h places' file block (omega arith)) in
     after
-    ∙ ap (λ (z : Bool). cond z (changed h file (only (first + i)) (λ _. Some (record { length = 1; board = board + i }))) h) yes
-    ∙ ap (λ (z : Holding). changed z file (only (first + i)) (λ _. Some (record { length = 1; board = board + i }))) e
-    ∙ extend h0 file first i (single first board) (Some (record { length = 1; board = board + i }))
-    (ap (λ (z : ℕ). Some (record { length = 1; board = board + z })) (let z : first + i - first ≡ i = omega arith in z))
+    ∙ ap (λ (z : Bool). cond z (changed h file (only block) (λ _. single first board block)) h) yes
+    ∙ ap (λ (z : Holding). changed z file (only block) (λ _. single first board block)) e
+    ∙ extend_at h0 file first block (single first board) lb
+
+-- The keys of a file are dropped below a block, and all else is as it was.
+pub record Dropped (h0 h : Holding) (file from : ℕ) : Type 0 where
+  pub within : from ≤ 65536
+  pub below : (b : ℕ) → b < from → h file b ≡ None
+  pub beside : (f b : ℕ) → f ≢ file → h f b ≡ h0 f b
 
 -- The lowest key from a block on is dropped.
-pub drop_next : (h0 h h' : Holding) (file from : ℕ) (row : Row) → from ≤ 65536
-    → h ≡ changed h0 file (inside 0 from) (λ _. None) → Some row ≡ lowest_row h file from
-    → h' ≡ changed h file (only row.block) (λ _. None)
-    → (from ≤ row.block) × (h' ≡ changed h0 file (inside 0 (row.block + 1)) (λ _. None))
-drop_next h0 h h' file from row lf e found after =
-    let low = lowest_when_some h file from row lf (sym found) in (
-      low.least,
-      file_ext h' (changed h0 file (inside 0 (row.block + 1)) (λ _. None)) file
-          (λ b. at low b (cases_lt b from) (cases_lt b row.block) (cases_eq b row.block))
-          (λ f b d. ap (λ (z : Holding). z f b) after ∙ changed_elsewhere h file (only row.block) (λ _. None) f b d
-          ∙ ap (λ (z : Holding). z f b) e ∙ changed_elsewhere h0 file (inside 0 from) (λ _. None) f b d
-          ∙ sym (changed_elsewhere h0 file (inside 0 (row.block + 1)) (λ _. None) f b d)),
-    )
+pub drop_next : (h0 h h' : Holding) (file from : ℕ) (row : Row) → Dropped h0 h file from → Some row ≡ lowest_row h file from
+    → h' ≡ changed h file (only row.block) (λ _. None) → Dropped h0 h' file row.block
+drop_next h0 h h' file from row d found after =
+    record {
+      within = omega (arith, low.within);
+      below = λ b l. left b (λ z. omega arith) ∙ at b l (cases_lt b from);
+      beside = λ f b z. ap (λ (k : Holding). k f b) after ∙ changed_elsewhere h file (only row.block) (λ _. None) f b z ∙ d.beside f b z;
+    }
   where
-    gone : (b : ℕ) → b < row.block + 1 → changed h0 file (inside 0 (row.block + 1)) (λ _. None) file b ≡ None
-    gone b l = changed_here h0 file (inside 0 (row.block + 1)) (λ _. None) b (inside_yes 0 (row.block + 1) b (omega arith) (omega arith))
+    low : Lowest (h file) file from 65536 row
+    low = lowest_when_some h file from row d.within (sym found)
 
     left : (b : ℕ) → b ≢ row.block → h' file b ≡ h file b
-    left b d = ap (λ (z : Holding). z file b) after ∙ changed_beside h file (only row.block) (λ _. None) b (only_other row.block b d)
+    left b z = ap (λ (k : Holding). k file b) after ∙ changed_beside h file (only row.block) (λ _. None) b (only_other row.block b z)
 
-    at : Rattle.tables.proofs.Lowest.Lowest (h file) file from 65536 row → (b : ℕ) → (b < from) ⊎ (from ≤ b) → (b < row.block) ⊎ (row.block ≤ b) → (b ≡ row.block) ⊎ (b ≢ row.block)
-        → h' file b ≡ changed h0 file (inside 0 (row.block + 1)) (λ _. None) file b
-    at low b (inl l) _ _ =
-        let k : from ≤ row.block = low.least in
-        left b (λ z. omega arith) ∙ ap (λ (z : Holding). z file b) e
-        ∙ changed_here h0 file (inside 0 from) (λ _. None) b (inside_yes 0 from b (omega arith) (omega arith))
-        ∙ sym (gone b (omega arith))
-    at low b (inr l) (inl m) _ = left b (λ z. omega arith) ∙ low.before b l m ∙ sym (gone b (omega arith))
-    at low b (inr l) (inr m) (inl q) =
-        ap (λ (z : Holding). z file b) after ∙ changed_here h file (only row.block) (λ _. None) b (ap (only row.block) q ∙ only_here row.block)
-        ∙ sym (gone b (omega arith))
-    at low b (inr l) (inr m) (inr q) =
-        let k : from ≤ row.block = low.least in
-        left b q ∙ ap (λ (z : Holding). z file b) e
-        ∙ changed_beside h0 file (inside 0 from) (λ _. None) b (inside_after 0 from b (omega arith))
-        ∙ sym (changed_beside h0 file (inside 0 (row.block + 1)) (λ _. None) b (inside_after 0 (row.block + 1) b (omega arith)))
+    at : (b : ℕ) → b < row.block → (b < from) ⊎ (from ≤ b) → h file b ≡ None
+    at b l (inl m) = d.below b m
+    at b l (inr m) = low.before b m l
+
+-- It was one key.
+pub drop_fewer : (h h' : Holding) (file from : ℕ) (row : Row) → from ≤ 65536 → file < 65536 → Some row ≡ lowest_row h file from
+    → h' ≡ changed h file (only row.block) (λ _. None) → tally h' < tally h
+drop_fewer h h' file from row lb lf found after =
+    let low = lowest_when_some h file from row lb (sym found) in
+    let there : one (is_some (h file row.block)) ≡ 1 = ap (λ (o : Option Entry). one (is_some o)) low.there in
+    let c = tally_change h file row.block None lf low.within in
+    let e : tally h' ≡ tally (changed h file (only row.block) (λ _. None)) = ap (λ (z : Holding). tally z) after in
+    omega arith
 
 -- No key is left of a file once there is none from a block on.
-pub drop_all : (h0 h : Holding) (file from : ℕ) → Numbered h0 → h ≡ changed h0 file (inside 0 from) (λ _. None)
+pub drop_all : (h0 h : Holding) (file from : ℕ) → Numbered h → Dropped h0 h file from
     → ((b : ℕ) → from ≤ b → b < 65536 → h file b ≡ None) → h ≡ changed h0 file every (λ _. None)
-drop_all h0 h file from num e none = file_ext h (changed h0 file every (λ _. None)) file
+drop_all h0 h file from num d none = file_ext h (changed h0 file every (λ _. None)) file
     (λ b. at b (cases_lt b from) (cases_lt b 65536) ∙ sym (changed_here h0 file every (λ _. None) b refl))
-    (λ f b d. ap (λ (z : Holding). z f b) e ∙ changed_elsewhere h0 file (inside 0 from) (λ _. None) f b d
-    ∙ sym (changed_elsewhere h0 file every (λ _. None) f b d))
+    (λ f b z. d.beside f b z ∙ sym (changed_elsewhere h0 file every (λ _. None) f b z))
   where
-    past : (b : ℕ) (o : Option Entry) → 65536 ≤ b → h0 file b ≡ o → o ≡ None
+    past : (b : ℕ) (o : Option Entry) → 65536 ≤ b → h file b ≡ o → o ≡ None
     past b None l s = refl
     past b (Some x) l s = absurd (let k = num file b (ap is_some s) in let z : b < 65536 = k.1 in omega arith)
 
     at : (b : ℕ) → (b < from) ⊎ (from ≤ b) → (b < 65536) ⊎ (65536 ≤ b) → h file b ≡ None
-    at b (inl l) _ = ap (λ (z : Holding). z file b) e ∙ changed_here h0 file (inside 0 from) (λ _. None) b (inside_yes 0 from b (omega arith) (omega arith))
+    at b (inl l) _ = d.below b l
     at b (inr l) (inl m) = none b l m
-    at b (inr l) (inr m) =
-        ap (λ (z : Holding). z file b) e ∙ changed_beside h0 file (inside 0 from) (λ _. None) b (inside_after 0 from b (omega arith)) ∙ past b (h0 file b) m refl
+    at b (inr l) (inr m) = past b (h file b) m refl

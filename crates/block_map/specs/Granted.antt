@@ -10,11 +10,12 @@ use Rattle.faults.specs.declared.Ground.TheVariants.{TooManyKeys}
 use Rattle.blocks.specs.Blocks.{Placement, inside, every, changed, one, tally}
 use Rattle.blocks.specs.declared.Entry.{Entry}
 use Rattle.blocks.proofs.Sums.{tally_fewer}
-use Rattle.tables.specs.Holding.{Holding}
-use Rattle.maps.specs.Steps.{Outcome, answer, fault_of, lowest_mapped_block, unless_ground, unless_mapped, if_room, assigned, cleared, forgotten, ground_of_extent, ground_of_assign, ground_of_file, assign_step, clear_step, forget_step}
+use Rattle.tables.specs.declared.row.Row.{Row}
+use Rattle.tables.specs.Holding.{Holding, lowest_row}
+use Rattle.maps.specs.Steps.{Outcome, answer, fault_of, lowest_mapped_block, unless_ground, unless_mapped, if_room, assigned, cleared, forgotten, next_answer, ground_of_block, ground_of_extent, ground_of_assign, ground_of_file, assign_step, clear_step, forget_step}
 use Rattle.block_map.specs.BlockKeys.{placed_by, Single, single}
 use Rattle.block_map.specs.Extending.{tally_run}
-use Rattle.block_map.specs.Lowest.{none_some, free_when_none}
+use Rattle.block_map.specs.Lowest.{none_some, free_when_none, next_is}
 
 -- ---- what keys say
 
@@ -84,15 +85,10 @@ placed_low h f b p s e = at (h f b) (λ x. s f b x) e
 
 -- ---- the calls
 
-pub no_ground : (g : Option Ground) (file block : ℕ) → ◌≡◌ {A = Result (Unit {0}) Fault} (Ok tt) (answer file block g tt) → g ≡ None
-no_ground None file block e = refl
-no_ground (Some g) file block e = absurd (let z : ◌≡◌ {A = ℕ} 0 1 = cc in omega arith)
-
--- what a question is answered that is not refused
-pub answered : {X : Type 0} (g : Option Ground) (file block : ℕ) (x y : X) → ◌≡◌ {A = Result (Unit {0}) Fault} (Ok tt) (answer file block g tt)
-    → x ≡ y → ◌≡◌ {A = Result X Fault} (Ok x) (answer file block g y)
-answered {X} g file block x y e k =
-    ap (λ (z : X). Ok z) k ∙ ap (λ (z : Option Ground). answer file block z y) (sym (no_ground g file block e))
+-- A call that is answered was not refused.
+pub not_refused : {X : Type 0} (g : Option Ground) (file block : ℕ) (x y : X) → ◌≡◌ {A = Result X Fault} (Ok x) (answer file block g y) → (g ≡ None) × (x ≡ y)
+not_refused None file block x y e = (refl, cc)
+not_refused (Some g) file block x y e = absurd (let z : ◌≡◌ {A = ℕ} 0 1 = cc in omega arith)
 
 granted : (room : ℕ) (p q : Placement) (file first : ℕ) → tally q ≤ room → if_room (λ (z : Placement). tally z) room p q file first ≡ (Ok tt, q)
 granted room p q file first l = cond-false (nat_lt room (tally q)) (Err (fault_of TooManyKeys file first), p) (Ok tt, q) (le-ltb room (tally q) l)
@@ -103,27 +99,45 @@ too_many room p q file first l = cond-true (nat_lt room (tally q)) (Err (fault_o
 abbrev rule : Placement → ℕ
 rule p = tally p
 
-pub clear_done : (h h' : Holding) (room file first n : ℕ) → ◌≡◌ {A = Result (Unit {0}) Fault} (Ok tt) (answer file first (ground_of_extent file first n) tt)
-    → tally h ≤ room → h' ≡ changed h file (inside first n) (λ _. None)
+pub next_done : (h : Holding) (file block narrow_file narrow_block : ℕ) (o : Option ℕ)
+    → ◌≡◌ {A = Result (ℕ × ℕ) Fault} (Ok (narrow_file, narrow_block)) (answer file block (ground_of_block file block) (file, block)) → narrow_block < 65536
+    → o ≡ option_map (λ (r : Row). r.block) (lowest_row h narrow_file narrow_block) → ◌≡◌ {A = Result (Option ℕ) Fault} (Ok o) (next_answer (placed_by h) file block)
+next_done h file block narrow_file narrow_block o ok l e =
+    let named = not_refused (ground_of_block file block) file block (narrow_file, narrow_block) (file, block) ok in
+    ap (λ (z : Option ℕ). Ok z) (e ∙ next_is h narrow_file narrow_block l
+    ∙ ap (λ (z : ℕ × ℕ). lowest_mapped_block (placed_by h z.0) z.1 (65536 - z.1)) named.1)
+    ∙ sym (ap (λ (g : Option Ground). answer file block g (lowest_mapped_block (placed_by h file) block (65536 - block))) named.0)
+
+-- what the call has named
+abbrev Named : Type 0
+Named = ℕ × ℕ × ℕ
+
+pub clear_done : (h h' : Holding) (room file first n : ℕ) (e : Named)
+    → ◌≡◌ {A = Result Named Fault} (Ok e) (answer file first (ground_of_extent file first n) (file, first, n))
+    → tally h ≤ room → h' ≡ changed h e.0 (inside e.1 e.2) (λ _. None)
     → ◌≡◌ {A = Outcome} (Ok tt, placed_by h') (clear_step rule room (placed_by h) file first n)
-clear_done h h' room file first n ok l e =
+clear_done h h' room file first n e ok l after =
     let p = placed_by h in
     let q = cleared p file first n in
     let fewer : tally q ≤ tally p = tally_out p file (inside first n) in
     let keys = tally_placed h in
-    ap (λ (z : Placement). (Ok tt, z)) (ap placed_by e ∙ placed_changed h file (inside first n) (λ _. None))
+    let named = not_refused (ground_of_extent file first n) file first e (file, first, n) ok in
+    ap (λ (z : Placement). (Ok tt, z)) (ap placed_by (after ∙ ap (λ (z : Named). changed h z.0 (inside z.1 z.2) (λ _. None)) named.1)
+    ∙ placed_changed h file (inside first n) (λ _. None))
     ∙ sym (granted room p q file first (omega arith))
-    ∙ sym (ap (λ (g : Option Ground). unless_ground g p file first (if_room rule room p q file first)) (no_ground (ground_of_extent file first n) file first ok))
+    ∙ sym (ap (λ (g : Option Ground). unless_ground g p file first (if_room rule room p q file first)) named.0)
 
-pub forget_done : (h h' : Holding) (file : ℕ) → ◌≡◌ {A = Result (Unit {0}) Fault} (Ok tt) (answer file 0 (ground_of_file file) tt)
-    → h' ≡ changed h file every (λ _. None) → ◌≡◌ {A = Outcome} (Ok tt, placed_by h') (forget_step (placed_by h) file)
-forget_done h h' file ok e =
-    ap (λ (z : Placement). (Ok tt, z)) (ap placed_by e ∙ placed_changed h file every (λ _. None))
-    ∙ sym (ap (λ (g : Option Ground). unless_ground g (placed_by h) file 0 (Ok tt, forgotten (placed_by h) file)) (no_ground (ground_of_file file) file 0 ok))
+pub forget_done : (h h' : Holding) (file narrow : ℕ) (other : ℕ)
+    → ◌≡◌ {A = Result (ℕ × ℕ) Fault} (Ok (narrow, other)) (answer file 0 (ground_of_file file) (file, 0))
+    → h' ≡ changed h narrow every (λ _. None) → ◌≡◌ {A = Outcome} (Ok tt, placed_by h') (forget_step (placed_by h) file)
+forget_done h h' file narrow other ok after =
+    let named = not_refused (ground_of_file file) file 0 (narrow, other) (file, 0) ok in
+    ap (λ (z : Placement). (Ok tt, z)) (ap placed_by (after ∙ ap (λ (z : ℕ × ℕ). changed h z.0 every (λ _. None)) named.1) ∙ placed_changed h file every (λ _. None))
+    ∙ sym (ap (λ (g : Option Ground). unless_ground g (placed_by h) file 0 (Ok tt, forgotten (placed_by h) file)) named.0)
 
+-- Blocks are assigned that are not mapped, of an extent whose ground of refusal is none.
 module _ (h : Holding) (room file first n board : ℕ) (lf : file < 65536) (ln : first + n ≤ 65536)
-    (ok : ◌≡◌ {A = Result (Unit {0}) Fault} (Ok tt) (answer file first (ground_of_assign file first n board) tt))
-    (none : None ≡ lowest_mapped_block (placed_by h file) first n) where
+    (free : ground_of_assign file first n board ≡ None) (none : None ≡ lowest_mapped_block (placed_by h file) first n) where
   -- Each block of the extent is mapped anew.
   tally_assigned : tally (assigned (placed_by h) file first n board) ≡ tally h + n
   tally_assigned =
@@ -138,16 +152,41 @@ module _ (h : Holding) (room file first n board : ℕ) (lf : file < 65536) (ln :
       ∙ ap (λ (z : Option ℕ). unless_mapped z (placed_by h) file (if_room rule room (placed_by h) (assigned (placed_by h) file first n board) file first)) none
       ∙ sym (ap (λ (g : Option Ground). unless_ground g (placed_by h) file first
       (unless_mapped (lowest_mapped_block (placed_by h file) first n) (placed_by h) file (if_room rule room (placed_by h) (assigned (placed_by h) file first n board) file first)))
-      (no_ground (ground_of_assign file first n board) file first ok))
+      free)
 
-  pub assign_full : room < tally h + n → ◌≡◌ {A = Outcome} (Err (fault_of TooManyKeys file first), placed_by h) (assign_step rule room (placed_by h) file first n board)
-  assign_full l =
+  full_step : room < tally h + n → ◌≡◌ {A = Outcome} (Err (fault_of TooManyKeys file first), placed_by h) (assign_step rule room (placed_by h) file first n board)
+  full_step l =
       let k = tally_assigned in
       reached (Err (fault_of TooManyKeys file first), placed_by h) (too_many room (placed_by h) (assigned (placed_by h) file first n board) file first (omega arith))
 
-  pub assign_done : (h' : Holding) → tally h + n ≤ room → h' ≡ changed h file (inside first n) (single first board)
+  done_step : (h' : Holding) → tally h + n ≤ room → h' ≡ changed h file (inside first n) (single first board)
       → ◌≡◌ {A = Outcome} (Ok tt, placed_by h') (assign_step rule room (placed_by h) file first n board)
-  assign_done h' l e =
+  done_step h' l e =
       let k = tally_assigned in
       ap (λ (z : Placement). (Ok tt, z)) (ap placed_by e ∙ placed_changed h file (inside first n) (single first board))
       ∙ reached (Ok tt, assigned (placed_by h) file first n board) (granted room (placed_by h) (assigned (placed_by h) file first n board) file first (omega arith))
+
+-- The same of an extent that the call has named.
+module _ (h : Holding) (room file first n board : ℕ) (e : Named)
+    (ok : ◌≡◌ {A = Result Named Fault} (Ok e) (answer file first (ground_of_assign file first n board) (file, first, n))) where
+  named : (ground_of_assign file first n board ≡ None) × (e ≡ (file, first, n))
+  named = not_refused (ground_of_assign file first n board) file first e (file, first, n) ok
+
+  pub named_n : e.2 ≡ n
+  named_n = ap (λ (z : Named). z.2) named.1
+
+  pub assign_full : e.0 < 65536 → e.1 + e.2 ≤ 65536 → None ≡ lowest_mapped_block (placed_by h e.0) e.1 e.2 → room < tally h + n
+      → ◌≡◌ {A = Outcome} (Err (fault_of TooManyKeys file first), placed_by h) (assign_step rule room (placed_by h) file first n board)
+  assign_full =
+      subst (λ (z : Named). z.0 < 65536 → z.1 + z.2 ≤ 65536 → None ≡ lowest_mapped_block (placed_by h z.0) z.1 z.2 → room < tally h + n
+      → ◌≡◌ {A = Outcome} (Err (fault_of TooManyKeys file first), placed_by h) (assign_step rule room (placed_by h) file first n board))
+      (sym named.1) (λ lf ln none l. full_step h room file first n board lf ln named.0 none l)
+
+  pub assign_done : (h' : Holding) → e.0 < 65536 → e.1 + e.2 ≤ 65536 → None ≡ lowest_mapped_block (placed_by h e.0) e.1 e.2 → tally h + n ≤ room
+      → h' ≡ changed h e.0 (inside e.1 e.2) (single e.1 board)
+      → ◌≡◌ {A = Outcome} (Ok tt, placed_by h') (assign_step rule room (placed_by h) file first n board)
+  assign_done h' =
+      subst (λ (z : Named). z.0 < 65536 → z.1 + z.2 ≤ 65536 → None ≡ lowest_mapped_block (placed_by h z.0) z.1 z.2 → tally h + n ≤ room
+      → h' ≡ changed h z.0 (inside z.1 z.2) (single z.1 board)
+      → ◌≡◌ {A = Outcome} (Ok tt, placed_by h') (assign_step rule room (placed_by h) file first n board))
+      (sym named.1) (λ lf ln none l after. done_step h room file first n board lf ln named.0 none h' l after)

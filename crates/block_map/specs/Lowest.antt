@@ -1,5 +1,5 @@
 -- The lowest mapped block of an extent.
-use Rattle.std.specs.Prelude.{◌≡◌, ℕ, zero, suc, ◌+◌, ◌-◌, ◌<◌, ◌≤◌, true, is_some, Some, None, Option, refl}
+use Rattle.std.specs.Prelude.{◌≡◌, ℕ, zero, suc, ◌+◌, ◌-◌, ◌<◌, ◌≤◌, true, is_some, MatchOption, Some, None, Option, refl}
 use Rattle.std.proofs.Common.{sym, ap, ◌∙◌, inl, inr, arith}
 use Rattle.std.specs.Option.{option_map}
 use Rattle.std.proofs.lemmas.Bool.{cases_eq, false≢true}
@@ -68,26 +68,26 @@ keyed (Some x) e = refl
 pub free_when_none : (h : Holding) (file first n : ℕ) → None ≡ lowest_mapped_block (placed_by h file) first n → Free (h file) first n
 free_when_none h file first n e x l k = unmapped (h file x) (when_none (placed_by h file) first n (sym e) x l k)
 
-pub none_when_free : (h : Holding) (file first n : ℕ) → Free (h file) first n → lowest_mapped_block (placed_by h file) first n ≡ None
-none_when_free h file first n e = lowest_none (placed_by h file) first n (λ x l k. keyless h file x (e x l k))
-
-pub some_after_free : (h : Holding) (file first n i : ℕ) → i < n → Free (h file) first i → is_some (h file (first + i)) ≡ true
-    → lowest_mapped_block (placed_by h file) first n ≡ Some (first + i)
-some_after_free h file first n i l e s =
-    lowest_some (placed_by h file) first n (first + i) (omega arith) (omega arith) (keyed (h file (first + i)) s)
-    (λ y k j. keyless h file y (e y k j))
+-- The first block of an extent with a key is its lowest mapped one.
+pub lowest_found : (h : Holding) (file first n : ℕ) (o : Option ℕ)
+    → MatchOption o ((b : ℕ) → first ≤ b → b < first + n → h file b ≡ None)
+    (λ b. (first ≤ b) × (b < first + n) × (is_some (h file b) ≡ true) × ((x : ℕ) → first ≤ x → x < b → h file x ≡ None))
+    → o ≡ lowest_mapped_block (placed_by h file) first n
+lowest_found h file first n None free = sym (lowest_none (placed_by h file) first n (λ b l m. keyless h file b (free b l m)))
+lowest_found h file first n (Some b) s =
+    sym (lowest_some (placed_by h file) first n b s.0 s.1 (keyed (h file b) s.2) (λ x l m. keyless h file x (s.3 x l m)))
 
 -- The lowest key is the lowest mapped block's.
-pub next_none : (h : Holding) (file block : ℕ) → None ≡ lowest_row h file block → block < 65536 → None ≡ lowest_mapped_block (placed_by h file) block (65536 - block)
-next_none h file block e l =
-    sym (lowest_none (placed_by h file) block (65536 - block) (λ x k j. keyless h file x (lowest_when_none h file block (sym e) x k (omega arith))))
-
-pub next_some : (h : Holding) (file block : ℕ) (row : Row) → Some row ≡ lowest_row h file block → block < 65536
-    → Some row.block ≡ lowest_mapped_block (placed_by h file) block (65536 - block)
-next_some h file block row e l =
-    let low = lowest_when_some h file block row (omega arith) (sym e) in
-    let least : block ≤ row.block = low.least in
-    let within : row.block < 65536 = low.within in
-    sym (lowest_some (placed_by h file) block (65536 - block) row.block least (omega arith)
-    (keyed (h file row.block) (ap is_some low.there))
-    (λ y k j. keyless h file y (low.before y k j)))
+pub next_is : (h : Holding) (file block : ℕ) → block < 65536
+    → option_map (λ (r : Row). r.block) (lowest_row h file block) ≡ lowest_mapped_block (placed_by h file) block (65536 - block)
+next_is h file block l = at (lowest_row h file block) refl
+  where
+    at : (o : Option Row) → lowest_row h file block ≡ o → option_map (λ (r : Row). r.block) o ≡ lowest_mapped_block (placed_by h file) block (65536 - block)
+    at None e = sym (lowest_none (placed_by h file) block (65536 - block) (λ x k j. keyless h file x (lowest_when_none h file block e x k (omega arith))))
+    at (Some row) e =
+        let low = lowest_when_some h file block row (omega arith) e in
+        let least : block ≤ row.block = low.least in
+        let within : row.block < 65536 = low.within in
+        sym (lowest_some (placed_by h file) block (65536 - block) row.block least (omega arith)
+        (keyed (h file row.block) (ap is_some low.there))
+        (λ y k j. keyless h file y (low.before y k j)))

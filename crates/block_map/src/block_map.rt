@@ -7,23 +7,23 @@ ghost use Rattle.block_map.specs.BlockKeys.{placed_by, Single};
 ghost use Rattle.block_map.specs.Granted.{tally_out, placed_low, tally_placed};
 ghost use Rattle.std.proofs.Common.{arith, rules};
 
-use crate::checks::*;
-use crate::keys::*;
-use faults::{Fault, Ground};
+use crate::keys::{drop_file, drop_keys, first_mapped, put_keys};
+use faults::{Fault, Ground, Layer};
 use maps::Map;
+use maps::extent::Extent;
 use tables::table::Table;
 
 /// A map that keeps one key for each mapped block, with the length 1 and the block's board number.
 #[derive(Drop)]
-pub struct BlockMap<T> {
+pub struct BlockMap<T: Table> {
     table: T,
+    ghost single: { Single (T.Table.holding table) },
 }
 
 impl<T: Table> BlockMap<T> {
     /// A map with the table's room in which no block is mapped: the table is emptied.
     pub fn new(mut table: T) -> BlockMap<T>
-        ensures valid { T.Table.valid table → T.Table.valid result.table × Single (T.Table.holding result.table) }
-        ensures placed { T.Table.valid table → placed_by (T.Table.holding result.table) ≡ nowhere }
+        ensures placed { placed_by (T.Table.holding result.table) ≡ nowhere }
         ensures room { T.Table.places result.table ≡ T.Table.places table }
     {
         table.empty();
@@ -32,8 +32,6 @@ impl<T: Table> BlockMap<T> {
 }
 
 impl<T: Table> Map for BlockMap<T> {
-    ghost valid = { λ s. T.Table.valid s.table × Single (T.Table.holding s.table) };
-
     ghost placed = { λ s. placed_by (T.Table.holding s.table) };
 
     ghost room = { λ s. T.Table.places s.table };
@@ -46,49 +44,45 @@ impl<T: Table> Map for BlockMap<T> {
 
     ghost within = { Prim.search rules };
 
-    ghost on_board = { λ s v f b p e. placed_low (T.Table.holding s.table) f b p v.1 e };
+    ghost on_board = { λ s f b p e. placed_low (T.Table.holding s.table) f b p s.single e };
 
-    ghost roomy = { λ s v.
+    ghost roomy = { λ s.
         let k = tally_placed (T.Table.holding s.table) in
-        let l = T.Table.bounded s.table v.0 in
+        let l = T.Table.bounded s.table in
         omega arith };
 
     fn find(&mut self, file: u32, block: u32) -> Result<Option<u32>, Fault> {
-        check_block(file, block)?;
-        match self.table.find(file as u16, block as u16) {
-            Some(entry) => Ok(Some(entry.board as u32)),
-            None => Ok(None),
-        }
+        let (file, block) = Layer::Map.narrow(file, block)?;
+        let entry = self.table.find(file, block);
+        Ok(entry.map(|entry| u32::from(entry.board)))
     }
 
     fn next(&mut self, file: u32, block: u32) -> Result<Option<u32>, Fault> {
-        check_block(file, block)?;
-        match self.table.first_from(file as u16, block as u16) {
-            Some(row) => Ok(Some(row.block as u32)),
-            None => Ok(None),
-        }
+        let (file, block) = Layer::Map.narrow(file, block)?;
+        let row = self.table.first_from(file, block);
+        Ok(row.map(|row| u32::from(row.block)))
     }
 
     fn assign(&mut self, file: u32, first: u32, n: u32, board: u32) -> Result<(), Fault> {
-        check_assign(file, first, n, board)?;
-        if let Some(block) = first_mapped(&self.table, file, first, n) {
-            return Err(refusal(Ground::Mapped, file, block));
+        let extent = Extent::on_board(file, first, n, board)?;
+        if let Some(block) = first_mapped(&self.table, extent) {
+            return Err(Layer::Map.refusal(Ground::Mapped, file, block));
         }
-        if n > self.table.room().saturating_sub(self.table.held()) {
-            return Err(refusal(Ground::TooManyKeys, file, first));
+        if n > self.table.room() - self.table.held() {
+            return Err(Layer::Map.refusal(Ground::TooManyKeys, file, first));
         }
-        put_keys(&mut self.table, file, first, n, board);
+        put_keys(&mut self.table, extent, board);
         Ok(())
     }
 
     fn clear(&mut self, file: u32, first: u32, n: u32) -> Result<(), Fault> {
-        check_extent(file, first, n)?;
-        drop_keys(&mut self.table, file, first, n);
+        let extent = Extent::named(file, first, n)?;
+        drop_keys(&mut self.table, extent);
         Ok(())
     }
 
     fn forget(&mut self, file: u32) -> Result<(), Fault> {
-        check_file(file)?;
+        let (file, _) = Layer::Map.narrow(file, 0)?;
         drop_file(&mut self.table, file);
         Ok(())
     }

@@ -3,5 +3,4 @@
 #![tactic(auto)]
 
 pub mod block_map;
-mod checks;
 mod keys;

@@ -1,13 +1,14 @@
-use Rattle.std.proofs.Common.{is_some, sym, ap, ◌∙◌, arith}
-use Rattle.block_map.specs.Lowest.{none_when_free, some_after_free}
+use Rattle.std.proofs.Common.{◌≡◌, ◌+◌, is_some, true, None, rules}
+use borrow.Author.Tests.{tests}
+use Rattle.std.proofs.lemmas.Iterator.{first_from_Range}
+use Rattle.block_map.specs.Lowest.{lowest_found}
 use Rattle.block_map.proofs.keys.first_mapped.Goals as goal
 
-pub returns-then-is_some : goal.returns-then-is_some
-returns-then-is_some g c = λ v.
-    sym (some_after_free (g.T.Table.holding c.args.table.now) c.args.file c.args.first c.args.n c.loop-i.i c.loop-i-test.true
-    (c.loop-i.invariant v) (sym (ap is_some (c.find.ensures v)) ∙ sym c.if-is_some.ensures))
-
 pub returns : goal.returns
-returns g c = λ v.
-    sym (none_when_free (g.T.Table.holding c.args.table.now) c.args.file c.args.first c.args.n
-    (λ b l m. c.loop-i.invariant v b l (omega arith)))
+returns g c =
+    let h = g.T.Table.holding c.args.table.now in
+    let extent = c.args.extent in
+    lowest_found h extent.file extent.first extent.n c.find.result
+    (first_from_Range (record { start = extent.first; end = extent.first + extent.n }) _ _ c.find.result
+    (λ b. is_some (h extent.file b) ≡ true) (λ b. h extent.file b ≡ None) c.find.ensures.ran
+    (λ b q k. search (rules, tests)) (λ b q k. search (rules, tests)))

@@ -1,26 +1,11 @@
-use Rattle.std.proofs.Common.{refl}
-use Rattle.block_map.specs.Lowest.{next_none, next_some}
-use Rattle.block_map.specs.Granted.{answered}
+use Rattle.std.proofs.Common.{◌≡◌, ap, ◌∙◌, arith, rules}
+use Rattle.std.specs.Option.{option_map}
+use Rattle.tables.specs.declared.row.Row.{Row}
+use Rattle.block_map.specs.Granted.{next_done}
 use Rattle.block_map.proofs.block_map.BlockMapMap.next.Goals as goal
 
-pub returns-in-Some : goal.returns-in-Some
-returns-in-Some g c =
-    let h = g.T.Table.holding c.args.self.now.table in
-    let e = c.in_ok-check_block.ensures in
-    record {
-      kept = λ v. v;
-      room = refl;
-      answer = λ v. answered _ c.args.file c.args.block _ _ e.answer (next_some h c.args.file c.args.block c.in-Some.row (c.in-Some.ensures v.0) e.good.1);
-      same = λ v. refl;
-    }
-
-pub returns-in-None : goal.returns-in-None
-returns-in-None g c =
-    let h = g.T.Table.holding c.args.self.now.table in
-    let e = c.in_ok-check_block.ensures in
-    record {
-      kept = λ v. v;
-      room = refl;
-      answer = λ v. answered _ c.args.file c.args.block _ _ e.answer (next_none h c.args.file c.args.block (c.in-None.ensures v.0) e.good.1);
-      same = λ v. refl;
-    }
+pub returns-clause-answer : goal.returns-clause-answer
+returns-clause-answer g c =
+    let e : c.map.result ≡ option_map (λ (r : Row). r.block) c.first_from-row.result = search rules in
+    next_done (g.T.Table.holding c.args.self.now.table) c.args.file c.args.block c.in_ok-file.file c.in_ok-file.block c.map.result
+    c.in_ok-file.ensures (omega arith) (e ∙ ap (option_map (λ (r : Row). r.block)) c.first_from-row.ensures)

@@ -1,47 +1,48 @@
--- A key that was found, tested.
-use Rattle.std.proofs.Common.{◌≡◌, ℕ, ◌+◌, ◌<◌, ◌≤◌, Bool, true, false, ◌&&◌, ltb, leb, ◌⊎◌, Some, None, sym, ◌∙◌, inl, inr, arith}
-use Rattle.std.proofs.lemmas.Bool.{and_parts, and_from, and_cases, leb-true, ltb-true, le-leb, true≢false}
+-- The first key on a block's path, kept if its extent contains the block.
+use Rattle.std.proofs.Common.{◌≡◌, ℕ, ◌+◌, ◌≤◌, Bool, true, false, nat_le, nat_lt, is_some, Some, None, Option, sym, refl, subst, arith}
+use Rattle.std.proofs.lemmas.Bool.{and_parts, leb-true, ltb-true, true≢false}
+use Rattle.std.specs.Prelude.{option_and_then}
+use Rattle.std.specs.Bool.{then_some}
 use Rattle.blocks.specs.Blocks.{inside}
-use Rattle.blocks.specs.declared.Entry.{Entry}
-use Rattle.blocks.proofs.Changes.{inside_yes}
 use Rattle.extents.specs.declared.key.Key.{Key}
-use Rattle.extents.specs.Extents.{path, first_held_key, key_at}
+use Rattle.extents.specs.Extents.{FileMap, path, first_held_key}
 use Rattle.tables.specs.Holding.{Holding}
 use Rattle.key_rule.specs.Keyed.{Held, placing}
-use Rattle.key_rule.proofs.Looks.{held_key, held_small, held_within, key_long, found_held, over_miss}
+use Rattle.key_rule.specs.Mends.{Sane, Over}
+use Rattle.key_rule.proofs.Looks.{held_small, held_within, key_block, found_held, over_hit, over_none, over_miss}
 
-module _ (s l p b : ℕ) where
-  abbrev pub Passes : Bool
-  Passes = inside s l b && (leb (p + l) 4096 && leb (s + l) 65536)
-
-  pub covers_yes : true ≡ Passes → (s ≤ b) × (b < s + l) × (p + l ≤ 4096) × (s + l ≤ 65536)
-  covers_yes e =
-      let x = and_parts (inside s l b) (leb (p + l) 4096 && leb (s + l) 65536) (sym e) in
-      let y = and_parts (leb s b) (ltb b (s + l)) x.0 in
-      let z = and_parts (leb (p + l) 4096) (leb (s + l) 65536) x.1 in
-      (leb-true s b y.0, ltb-true b (s + l) y.1, leb-true (p + l) 4096 z.0, leb-true (s + l) 65536 z.1)
-
-  pub covers_no : false ≡ Passes → p + l ≤ 4096 → s + l ≤ 65536 → inside s l b ≡ false
-  covers_no e i j = at (and_cases (inside s l b) (leb (p + l) 4096 && leb (s + l) 65536) (sym e))
-    where
-      fits : (leb (p + l) 4096 && leb (s + l) 65536) ≡ true
-      fits = and_from (leb (p + l) 4096) (leb (s + l) 65536) (le-leb (p + l) 4096 i) (le-leb (s + l) 65536 j)
-
-      at : (inside s l b ≡ false) ⊎ ((leb (p + l) 4096 && leb (s + l) 65536) ≡ false) → inside s l b ≡ false
-      at (inl x) = x
-      at (inr x) = absurd (true≢false (sym fits ∙ x))
+abbrev pub kept : ℕ → Option Key → Option Key
+kept b o = option_and_then (λ k. then_some (inside k.start k.length b) k) o
 
 module _ (h : Holding) (v : Held h) (f b : ℕ) where
-  -- the first key on the path does not cover the block
-  pub over_not : (k : Key) → Some k ≡ first_held_key (h f) (path b) → false ≡ Passes k.start k.length k.board b → placing h f b ≡ None
-  over_not k e t =
-      let at = found_held (h f) (path b) k (sym e) in
-      over_miss h v f b k e (covers_no k.start k.length k.board b t
-      (held_small h v f k.start k.length k.board at) (held_within h v f k.start k.length k.board at))
+  abbrev Found : Option Key → Type 0
+  Found r = Sane b r × Over (placing h f) b r
 
-  -- an entry that a table holds covers its start
-  pub entry_not : (e : Entry) → Some e ≡ h f b → false ≡ Passes b e.length e.board b → key_at (placing h f) b ≡ None
-  entry_not e q t =
-      let long = key_long (placing h f) b e.length e.board (held_key h v f b e.length e.board (sym q)) in
-      absurd (true≢false (sym (inside_yes b e.length b (omega arith) (omega arith)) ∙ covers_no b e.length e.board b t
-      (held_small h v f b e.length e.board (sym q)) (held_within h v f b e.length e.board (sym q))))
+  pub over_kept : (o : Option Key) → o ≡ first_held_key (h f) (path b) → Found (kept b o)
+  over_kept None e = (tt, over_none h v f b e)
+  over_kept (Some k) e = at (inside k.start k.length b) refl
+    where
+      at : (t : Bool) → inside k.start k.length b ≡ t → Found (then_some t k)
+      at false i = (tt, over_miss h v f b k e i)
+      at true i =
+          let held = found_held (h f) (path b) k (sym e) in
+          let x = and_parts (nat_le k.start b) (nat_lt b (k.start + k.length)) i in (
+            (
+              leb-true k.start b x.0,
+              ltb-true b (k.start + k.length) x.1,
+              held_small h v f k.start k.length k.board held,
+              held_within h v f k.start k.length k.board held,
+            ),
+            over_hit h v f b k e,
+          )
+
+-- ---- whether a block is mapped
+
+module _ (m : FileMap) (b : ℕ) where
+  pub mapped_under : (o : Option Key) → is_some o ≡ true → Sane b o → Over m b o → (v : ℕ) × (m b ≡ Some v)
+  mapped_under None e s k = absurd (true≢false (sym e))
+  mapped_under (Some y) e s k = (_, key_block m y.start y.length y.board b k s.0 s.1)
+
+  pub unmapped_under : (o : Option Key) → is_some o ≡ false → Over m b o → m b ≡ None
+  unmapped_under None e k = k
+  unmapped_under (Some y) e k = absurd (true≢false e)

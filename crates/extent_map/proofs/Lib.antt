@@ -1,3 +1,6 @@
 pub mod Covers
-pub mod Refusals
+pub mod Nexts
+pub mod Walks
 pub mod Counted
+pub mod Numbers
+pub mod Remaking

@@ -1,13 +1,16 @@
 -- What the calls of an extent map and their parts answer.
-use Rattle.std.specs.Prelude.{◌≡◌, ℕ, ◌+◌, ◌<◌, ◌≤◌, Some, None, Option, Result}
+use Rattle.std.specs.Prelude.{◌≡◌, ℕ, ◌<◌, ◌≤◌, Some, None, Ok, Err, Option, Result}
 use Rattle.faults.specs.declared.Fault.{Fault}
 use Rattle.faults.specs.declared.Ground.{Ground}
-use Rattle.blocks.specs.declared.Entry.{Entry}
+use Rattle.faults.specs.declared.Ground.TheVariants.{TooManyKeys}
 use Rattle.look_ups.specs.declared.Found.{Found}
-use Rattle.extents.specs.Extents.{FileMap, IsKey, lookup, tried, key_at}
+use Rattle.extents.specs.declared.key.Key.{Key}
+use Rattle.extents.specs.Extents.{KeyTable, entry, lookup, tried, key_at}
 use Rattle.blocks.specs.Blocks.{Placement}
 use Rattle.tables.specs.Holding.{Holding}
 use Rattle.maps.specs.Steps.{answer, ground_of_block}
+use Rattle.key_rule.specs.Keyed.{keyed, rule_of_keys}
+use Rattle.key_rule.specs.Mends.{Sought}
 
 -- what the counted look-up of a block reads from a table: its board number or none, and how many keys of its path were tried
 abbrev pub counted_in : Holding → ℕ → ℕ → Result Found Fault
@@ -19,27 +22,12 @@ abbrev pub counted_answer : Placement → ℕ → ℕ → Result Found Fault
 counted_answer p file block =
     answer file block (ground_of_block file block) (record { board = p file block; tried = tried (key_at (p file)) block })
 
--- The numbers of a key that starts at a block are such as a map has.
-abbrev pub Fitting : ℕ → Option Entry → Type 0
-Fitting b None = Unit {0}
-Fitting b (Some e) = (0 < e.length) × (e.board + e.length ≤ 4096) × (b + e.length ≤ 65536)
+-- The first key of a file that starts from x on and below r.
+abbrev pub Next : KeyTable → ℕ → ℕ → Option Key → Type 0
+Next t x r None = Sought t x r r
+Next t x r (Some k) = (x ≤ k.start) × (k.start < r) × Sought t x r k.start × (t k.start ≡ Some (entry k.length k.board))
 
--- what the key carries that starts at a block
-abbrev pub StartsAt : FileMap → ℕ → Option Entry → Type 0
-StartsAt m b None = key_at m b ≡ None
-StartsAt m b (Some e) = IsKey m b e.length e.board
-
--- The numbers of a question that is not refused are within bounds,
-abbrev pub Named : Option Ground → ℕ → ℕ → Type 0
-Named None file block = (file < 65536) × (block < 65536)
-Named (Some g) file block = Unit {0}
-
--- those of a change of an extent,
-abbrev pub Admitted : Option Ground → ℕ → ℕ → ℕ → Type 0
-Admitted None file first n = (file < 65536) × (first < 65536) × (first + n ≤ 65536) × (0 < n) × (n ≤ 4096)
-Admitted (Some g) file first n = Unit {0}
-
--- and those of an extent that is assigned.
-abbrev pub Assignable : Option Ground → ℕ → ℕ → ℕ → ℕ → Type 0
-Assignable None file first n board = (file < 65536) × (first < 65536) × (first + n ≤ 65536) × (0 < n) × (board + n ≤ 4096)
-Assignable (Some g) file first n board = Unit {0}
+-- whether there was room for the keys of the new placement, and the table afterwards
+abbrev pub Remade : Holding → ℕ → Placement → Result (Unit {0}) Ground → Holding → Type 0
+Remade h room n (Ok _) g = (rule_of_keys n ≤ room) × (g ≡ keyed n)
+Remade h room n (Err e) g = (room < rule_of_keys n) × (e ≡ TooManyKeys) × (g ≡ h)

@@ -2,98 +2,122 @@
 
 ghost use Rattle.std.specs.Prelude.{◌≡◌, ℕ, ◌+◌, ◌-◌, ◌<◌, ◌≤◌};
 ghost use Rattle.extents.specs.Extents.{Barrier};
-ghost use Rattle.key_rule.specs.Keyed.{Held, placing};
+ghost use Rattle.key_rule.specs.Keyed.{placing};
 ghost use Rattle.key_rule.specs.Mends.{Leftward, Rightward, LeftEdge, RightEdge};
 ghost use Rattle.maps.specs.Steps.{lowest_mapped_block};
 
-use crate::keys::*;
+use crate::keys::FileKeys;
+use look_ups::Keys;
 use tables::table::Table;
 
-/// The lowest mapped one of a file's n blocks from `first` on.
-pub fn lowest_mapped<T: Table>(table: &T, file: u16, first: u32, n: u32) -> Option<u32>
-    requires { (0 < n) × (first + n ≤ 65536) }
-    ensures { T.Table.valid table.now → Held (T.Table.holding table.now) → result ≡ lowest_mapped_block (placing (T.Table.holding table.now) file) first n }
-{
-    if let Some(_) = key_over(table, file, first as u16) {
-        return Some(first);
-    }
-    if n == 1 {
-        return None;
-    }
-    let Some(row) = table.first_from(file, (first + 1) as u16) else {
-        return None;
-    };
-    let start = row.block as u32;
-    if start < first + n { Some(start) } else { None }
+/// Where a run begins or ends, and the board number there.
+#[derive(Clone, Copy)]
+pub struct Edge {
+    pub block: u32,
+    pub board: u32,
 }
 
-/// Where the run begins that goes on into a block at a board number, and the board number there.
-pub fn leftward<T: Table>(table: &T, file: u16, first: u32, board: u32) -> (u32, u32)
-    requires { first < 65536 }
-    ensures range { (result.0 ≤ first) × (result.1 + first ≡ board + result.0) }
-    ensures found { T.Table.valid table.now → Held (T.Table.holding table.now) → Leftward (placing (T.Table.holding table.now) file) first result.0 result.1 }
-{
-    let mut x = first;
-    let mut at = board;
-    while x % 4096 != 0 {
-        let Some(key) = key_over(table, file, (x - 1) as u16) else {
-            return (x, at);
+impl<'a, T: Table> FileKeys<'a, T> {
+    /// The lowest mapped one of the n blocks from `first` on.
+    pub fn lowest_mapped(&self, first: u32, n: u32) -> Option<u32>
+        requires { (0 < n) × (first + n ≤ 65536) }
+        ensures { result ≡ lowest_mapped_block (placing (T.Table.holding self.now.table.now) self.now.file) first n }
+    {
+        if self.key_over(first as u16).is_some() {
+            return Some(first);
+        }
+        if n == 1 {
+            return None;
+        }
+        let row = self.table.first_from(self.file, (first + 1) as u16)?;
+        let start = u32::from(row.block);
+        if start < first + n { Some(start) } else { None }
+    }
+
+    /// Where the run begins that goes on into a block at a board number.
+    pub fn leftward(&self, first: u32, board: u32) -> Edge
+        requires { first < 65536 }
+        ensures range { (result.block ≤ first) × (result.board + first ≡ board + result.block) }
+        ensures found { Leftward (placing (T.Table.holding self.now.table.now) self.now.file) first result.block result.board }
+    {
+        let mut left = Edge {
+            block: first,
+            board,
         };
-        let start = key.start as u32;
-        let lowest = key.board as u32;
-        if lowest + (x - start) != at {
-            return (x, at);
+        while left.block % 4096 != 0 {
+            let Some(key) = self.key_over((left.block - 1) as u16) else {
+                return left;
+            };
+            let start = u32::from(key.start);
+            let lowest = u32::from(key.board);
+            if lowest + (left.block - start) != left.board {
+                return left;
+            }
+            left = Edge {
+                block: start,
+                board: lowest,
+            };
         }
-        x = start;
-        at = lowest;
+        left
     }
-    (x, at)
-}
 
-/// Where the run ends that goes on from a block at a board number.
-pub fn rightward<T: Table>(table: &T, file: u16, end: u32, board: u32) -> u32
-    requires { (end ≤ 65536) × (board ≤ 4096) }
-    ensures range { (end ≤ result) × (result ≤ 65536) × (board + (result - end) ≤ 4096) }
-    ensures found { T.Table.valid table.now → Held (T.Table.holding table.now) → Barrier (placing (T.Table.holding table.now) file) end → Rightward (placing (T.Table.holding table.now) file) end board result }
-{
-    let mut y = end;
-    let mut at = board;
-    while y % 4096 != 0 {
-        let Some(entry) = entry_at(table, file, y as u16) else {
-            return y;
-        };
-        if entry.board as u32 != at {
-            return y;
+    /// Where the run ends that goes on from a block at a board number.
+    pub fn rightward(&self, end: u32, board: u32) -> u32
+        requires range { (end ≤ 65536) × (board ≤ 4096) }
+        requires barrier { Barrier (placing (T.Table.holding self.now.table.now) self.now.file) end }
+        ensures range { (end ≤ result) × (result ≤ 65536) × (board + (result - end) ≤ 4096) }
+        ensures found { Rightward (placing (T.Table.holding self.now.table.now) self.now.file) end board result }
+    {
+        let mut right = Edge { block: end, board };
+        while right.block % 4096 != 0 {
+            let Some(entry) = self.key_at(right.block as u16) else {
+                return right.block;
+            };
+            if u32::from(entry.board) != right.board {
+                return right.block;
+            }
+            right.block += u32::from(entry.length);
+            right.board += u32::from(entry.length);
         }
-        y += entry.length as u32;
-        at += entry.length as u32;
+        right.block
     }
-    y
-}
 
-/// Where the key over a block begins, and its board number; the block itself where there is none.
-pub fn left_edge<T: Table>(table: &T, file: u16, first: u32) -> (u32, u32)
-    requires { first < 65536 }
-    ensures range { (result.0 ≤ first) × (result.1 + (first - result.0) ≤ 4096) }
-    ensures found { T.Table.valid table.now → Held (T.Table.holding table.now) → LeftEdge (placing (T.Table.holding table.now) file) first result.0 result.1 }
-{
-    match key_over(table, file, first as u16) {
-        Some(key) => (key.start as u32, key.board as u32),
-        None => (first, 0),
-    }
-}
-
-/// Where the key over the block before `end` ends, and the board number that it gives `end`; `end` itself where there is none.
-pub fn right_edge<T: Table>(table: &T, file: u16, end: u32) -> (u32, u32)
-    requires { (0 < end) × (end ≤ 65536) }
-    ensures range { (end ≤ result.0) × (result.0 ≤ 65536) × (result.1 + (result.0 - end) ≤ 4096) }
-    ensures found { T.Table.valid table.now → Held (T.Table.holding table.now) → RightEdge (placing (T.Table.holding table.now) file) end result.0 result.1 }
-{
-    match key_over(table, file, (end - 1) as u16) {
-        Some(key) => {
-            let start = key.start as u32;
-            (start + key.length as u32, key.board as u32 + (end - start))
+    /// Where the key over a block begins; the block itself where there is none.
+    pub fn left_edge(&self, first: u32) -> Edge
+        requires { first < 65536 }
+        ensures range { (result.block ≤ first) × (result.board + (first - result.block) ≤ 4096) }
+        ensures found { LeftEdge (placing (T.Table.holding self.now.table.now) self.now.file) first result.block result.board }
+    {
+        match self.key_over(first as u16) {
+            Some(key) => Edge {
+                block: u32::from(key.start),
+                board: u32::from(key.board),
+            },
+            None => Edge {
+                block: first,
+                board: 0,
+            },
         }
-        None => (end, 0),
+    }
+
+    /// Where the key over the block before `end` ends, and the board number that it gives `end`; `end` itself where there is none.
+    pub fn right_edge(&self, end: u32) -> Edge
+        requires { (0 < end) × (end ≤ 65536) }
+        ensures range { (end ≤ result.block) × (result.block ≤ 65536) × (result.board + (result.block - end) ≤ 4096) }
+        ensures found { RightEdge (placing (T.Table.holding self.now.table.now) self.now.file) end result.block result.board }
+    {
+        match self.key_over((end - 1) as u16) {
+            Some(key) => {
+                let start = u32::from(key.start);
+                Edge {
+                    block: start + u32::from(key.length),
+                    board: u32::from(key.board) + (end - start),
+                }
+            }
+            None => Edge {
+                block: end,
+                board: 0,
+            },
+        }
     }
 }

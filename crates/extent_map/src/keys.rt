@@ -1,27 +1,25 @@
-//! Single keys of a file, found along a path or at their start.
+//! One file's keys, found along a path.
 
-ghost use Rattle.std.specs.Prelude.{◌≡◌, ◌+◌, ◌<◌, ◌≤◌, ◌&&◌, nat_le};
+ghost use Rattle.std.specs.Prelude.{◌≡◌, option_and_then};
+ghost use Rattle.std.specs.Bool.{then_some};
 ghost use Rattle.blocks.specs.Blocks.{inside};
-ghost use Rattle.extents.specs.Extents.{lookup, tried};
 ghost use Rattle.key_rule.specs.Keyed.{Held, placing};
 ghost use Rattle.key_rule.specs.Mends.{Sane, Over};
-ghost use Rattle.extent_map.specs.Calls.{Fitting, StartsAt};
 
 use blocks::Entry;
 use extents::key::Key;
-use look_ups::{Found, Keys, first_held, look_up};
+use look_ups::{Keys, first_held};
 use tables::table::Table;
 
-/// One file's keys in a table.
-#[derive_where(Clone, Copy)]
-struct FileKeys<'a, T> {
-    table: &'a T,
-    file: u16,
+/// One file's keys in a table that holds exactly those of each file's map.
+#[derive(Drop)]
+pub struct FileKeys<'a, T: Table> {
+    pub table: &'a T,
+    pub file: u16,
+    ghost held: { Held (T.Table.holding table.now) },
 }
 
 impl<'a, T: Table> Keys for FileKeys<'a, T> {
-    ghost valid = { λ s. T.Table.valid s.table.now };
-
     ghost table = { λ s. T.Table.holding s.table.now s.file };
 
     fn key_at(&self, start: u16) -> Option<Entry> {
@@ -29,48 +27,19 @@ impl<'a, T: Table> Keys for FileKeys<'a, T> {
     }
 }
 
-/// Looks a block up along its path.
-pub fn look<T: Table>(table: &T, file: u16, block: u16) -> Found
-    ensures { T.Table.valid table.now → result ≡ record { board = lookup (T.Table.holding table.now file) block; tried = tried (T.Table.holding table.now file) block } }
+/// A key, if its extent contains a block.
+fn covering(key: Option<Key>, block: u16) -> Option<Key>
+    ensures { result ≡ option_and_then (λ k. then_some (inside k.start k.length block) k) key }
 {
-    let keys = FileKeys { table, file };
-    look_up(&keys, block)
+    key.filter(|key| key.start <= block && block - key.start < key.length)
 }
 
-/// Whether a key's extent contains a block, and its numbers are such as a map has.
-fn covers(start: u16, length: u16, board: u16, block: u16) -> bool
-    ensures { result ≡ (inside start length block && (nat_le (board + length) 4096 && nat_le (start + length) 65536)) }
-{
-    let first = start as u32;
-    let long = length as u32;
-    let block = block as u32;
-    first <= block && block < first + long && board as u32 + long <= 4096 && first + long <= 65536
-}
-
-/// The key whose extent contains a block.
-pub fn key_over<T: Table>(table: &T, file: u16, block: u16) -> Option<Key>
-    ensures sane { Sane block result }
-    ensures found { T.Table.valid table.now → Held (T.Table.holding table.now) → Over (placing (T.Table.holding table.now) file) block result }
-{
-    let keys = FileKeys { table, file };
-    let held = first_held(&keys, block);
-    let key = held.key?;
-    if covers(key.start, key.length, key.board, block) {
-        Some(key)
-    } else {
-        None
-    }
-}
-
-/// What the key carries that starts at a block.
-pub fn entry_at<T: Table>(table: &T, file: u16, block: u16) -> Option<Entry>
-    ensures sane { Fitting block result }
-    ensures found { T.Table.valid table.now → Held (T.Table.holding table.now) → StartsAt (placing (T.Table.holding table.now) file) block result }
-{
-    let entry = table.find(file, block)?;
-    if covers(block, entry.length, entry.board, block) {
-        Some(entry)
-    } else {
-        None
+impl<'a, T: Table> FileKeys<'a, T> {
+    /// The key whose extent contains a block.
+    pub fn key_over(&self, block: u16) -> Option<Key>
+        ensures sane { Sane block result }
+        ensures found { Over (placing (T.Table.holding self.now.table.now) self.now.file) block result }
+    {
+        covering(first_held(self, block).key, block)
     }
 }

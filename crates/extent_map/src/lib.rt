@@ -3,7 +3,6 @@
 #![tactic(auto)]
 
 mod edges;
-mod grounds;
 mod keys;
 pub mod map;
 mod runs;

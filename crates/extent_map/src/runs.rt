@@ -4,132 +4,160 @@ ghost use Rattle.std.specs.Prelude.{◌≡◌, ℕ, ◌+◌, ◌-◌, ◌<◌, �
 ghost use Rattle.blocks.specs.Blocks.{Placement, tally};
 ghost use Rattle.extents.specs.Extents.{Barrier};
 ghost use Rattle.key_rule.specs.Keyed.{Held, placing};
-ghost use Rattle.key_rule.specs.Mends.{Sought, blend, none, Counted, Laid, Cut, Mending, Mended};
+ghost use Rattle.key_rule.specs.Mends.{blend, none, Counted, Laid, Mending};
+ghost use Rattle.extent_map.specs.Calls.{Next, Remade};
 
+use crate::keys::FileKeys;
 use blocks::Entry;
-use run_keys::run::piece_length;
+use extents::key::Key;
+use faults::Ground;
+use run_keys::walk::Walk;
 use tables::table::Table;
 
-/// The start of a file's first key from x on, or r where none starts before it.
-///
-/// The block at x is tried by itself, so that the question for the lowest key, which may pass all rows, is asked across longer holes only.
-fn seek<T: Table>(table: &T, file: u16, x: u32, r: u32) -> u32
-    requires { (x ≤ r) × (r ≤ 65536) }
-    ensures range { (x ≤ result) × (result ≤ r) }
-    ensures sought { T.Table.valid table.now → Sought (T.Table.holding table.now file) x r result }
+/// A straight run of blocks, from `first` up to `end`, at the board numbers from `board` on.
+#[derive(Clone, Copy)]
+pub struct Run {
+    pub first: u32,
+    pub end: u32,
+    pub board: u32,
+    ghost order: { first ≤ end },
+    ghost inside: { end ≤ 65536 },
+    ghost fitting: { board + (end - first) ≤ 4096 },
+}
+
+impl Run {
+    /// The walk over the run, which gives its keys.
+    fn walk(self) -> Walk
+        ensures { (result.«at» ≡ self.first) × (result.end ≡ self.end) × (result.board ≡ self.board) }
+    {
+        Walk::between(self.first, self.end, self.board)
+    }
+}
+
+/// Two runs and the hole between them.
+#[derive(Clone, Copy)]
+pub struct Cut {
+    pub before: Run,
+    pub behind: Run,
+    ghost apart: { before.end ≤ behind.first },
+}
+
+/// The key of an entry that stands at a start.
+fn key_of(start: u16, entry: Entry) -> Key
+    ensures { result ≡ record { start = start; length = entry.length; board = entry.board } }
 {
-    if x >= r {
-        return r;
+    Key {
+        start,
+        length: entry.length,
+        board: entry.board,
     }
-    if let Some(_) = table.find(file, x as u16) {
-        return x;
+}
+
+/// The block behind a key.
+fn end_of(key: Key) -> u32
+    ensures { result ≡ key.start + key.length }
+{
+    u32::from(key.start) + u32::from(key.length)
+}
+
+/// The first key of a file that starts from a block on and below `end`.
+///
+/// The first two blocks are tried by themselves, so that the question for the lowest key, which may pass all rows,
+/// is asked across longer holes only.
+fn next_key<T: Table>(table: &T, file: u16, from: u32, end: u32) -> Option<Key>
+    requires { (from ≤ end) × (end ≤ 65536) }
+    ensures { Next (T.Table.holding table.now file) from end result }
+{
+    let far = end.min(from + 2);
+    for block in from..far {
+        if let Some(entry) = table.find(file, block as u16) {
+            return Some(key_of(block as u16, entry));
+        }
     }
-    if x + 1 >= r {
-        return r;
+    if far == end {
+        return None;
     }
-    let Some(row) = table.first_from(file, (x + 1) as u16) else {
-        return r;
-    };
-    let start = row.block as u32;
-    if x < start && start < r { start } else { r }
+    let row = table.first_from(file, far as u16)?;
+    if u32::from(row.block) < end {
+        Some(key_of(row.block, row.entry))
+    } else {
+        None
+    }
 }
 
 /// Drops the keys of a file from l up to r.
 pub fn drop_keys<T: Table>(table: &mut T, file: u16, l: u32, r: u32)
-    requires { (l ≤ r) × (r ≤ 65536) }
-    ensures kept { T.Table.valid table.old → T.Table.valid table.new }
+    requires held { Held (T.Table.holding table.now) }
+    requires range { (l ≤ r) × (r ≤ 65536) }
+    requires barrier { Barrier (placing (T.Table.holding table.now) file) r }
     ensures room { T.Table.places table.new ≡ T.Table.places table.old }
-    ensures after { T.Table.valid table.old → Held (T.Table.holding table.old) → Barrier (placing (T.Table.holding table.old) file) r → T.Table.holding table.new ≡ blend file l r none (T.Table.holding table.old) }
+    ensures after { T.Table.holding table.new ≡ blend file l r none (T.Table.holding table.old) }
 {
     let mut x = l;
-    while x < r {
-        if let Some(entry) = table.find(file, x as u16) {
-            let _ = table.remove(file, x as u16);
-            x += entry.length.max(1) as u32;
-        } else {
-            x = seek(table, file, x + 1, r);
-        }
+    while let Some(key) = next_key(table, file, x, r) {
+        let _ = table.remove(file, key.start);
+        x = end_of(key);
     }
 }
 
-/// How many keys of a file are held from l up to r.
-pub fn count_keys<T: Table>(table: &T, file: u16, l: u32, r: u32) -> u32
-    requires { (l ≤ r) × (r ≤ 65536) }
-    ensures { T.Table.valid table.now → Held (T.Table.holding table.now) → Barrier (placing (T.Table.holding table.now) file) r → result + tally (blend file l r none (T.Table.holding table.now)) ≡ tally (T.Table.holding table.now) }
-{
-    let mut x = l;
-    let mut count = 0;
-    while x < r {
-        if let Some(entry) = table.find(file, x as u16) {
+impl<'a, T: Table> FileKeys<'a, T> {
+    /// How many keys are held from l up to r.
+    pub fn count_keys(&self, l: u32, r: u32) -> u32
+        requires range { (l ≤ r) × (r ≤ 65536) }
+        requires barrier { Barrier (placing (T.Table.holding self.now.table.now) self.now.file) r }
+        ensures { result + tally (blend self.now.file l r none (T.Table.holding self.now.table.now)) ≡ tally (T.Table.holding self.now.table.now) }
+    {
+        let mut x = l;
+        let mut count = 0;
+        while let Some(key) = next_key(self.table, self.file, x, r) {
             count += 1;
-            x += entry.length.max(1) as u32;
-        } else {
-            x = seek(table, file, x + 1, r);
+            x = end_of(key);
         }
+        count
     }
-    count
 }
 
-/// How many keys a run from l up to r has.
-pub fn count_run(l: u32, r: u32) -> u32
-    requires { (l ≤ r) × (r ≤ 65536) }
-    ensures size { result ≤ r - l }
-    ensures count { Counted l r result }
+/// How many keys a run has.
+pub fn count_run(run: Run) -> u64
+    ensures size { result ≤ 65536 }
+    ensures count { Counted run.first run.end result }
 {
-    let mut x = l;
-    let mut count = 0;
-    while x < r {
-        x += piece_length(x, r - x);
-        count += 1;
-    }
-    count
+    run.walk().count() as u64
 }
 
-/// Puts the keys of a run from l up to r, at the board numbers from `board` on.
-pub fn put_run<T: Table>(table: &mut T, file: u16, l: u32, r: u32, board: u32)
-    requires { (l ≤ r) × ((r ≤ 65536) × (board + (r - l) ≤ 4096)) }
-    ensures kept { T.Table.valid table.old → T.Table.valid table.new }
+/// Puts the keys of a run.
+pub fn put_run<T: Table>(table: &mut T, file: u16, run: Run)
     ensures room { T.Table.places table.new ≡ T.Table.places table.old }
-    ensures after { T.Table.valid table.old → Laid (T.Table.holding table.old) (T.Table.places table.old) file l r board (T.Table.holding table.new) }
+    ensures after { Laid (T.Table.holding table.old) (T.Table.places table.old) file run.first run.end run.board (T.Table.holding table.new) }
 {
-    let mut x = l;
-    let mut at = board;
-    while x < r {
-        let length = piece_length(x, r - x);
+    for key in run.walk() {
         let entry = Entry {
-            length: length as u16,
-            board: at as u16,
+            length: key.length,
+            board: key.board,
         };
-        let _ = table.store(file, x as u16, entry);
-        x += length;
-        at += length;
+        let _ = table.store(file, key.start, entry);
     }
 }
 
-/// Makes a file's blocks anew from l up to r: a run from l up to a at the board numbers from p, a hole, and a run from b up to r
-/// at those from q. Nothing changes, and the answer is false, if the map would then call for more keys than there is room for.
-pub fn mend<T: Table>(
-    table: &mut T,
-    file: u16,
-    l: u32,
-    a: u32,
-    p: u32,
-    b: u32,
-    q: u32,
-    r: u32,
-) -> bool
-    requires { Cut l a p b q r }
-    ensures kept { T.Table.valid table.old → T.Table.valid table.new }
+/// Makes a file's blocks anew from the first of two runs to the end of the second: the runs and a hole between them.
+/// Nothing changes if the map would then call for more keys than there is room for.
+pub fn mend<T: Table>(table: &mut T, file: u16, cut: Cut) -> Result<(), Ground>
+    requires held { Held (T.Table.holding table.now) }
+    requires barrier { Barrier (placing (T.Table.holding table.now) file) cut.behind.end }
     ensures room { T.Table.places table.new ≡ T.Table.places table.old }
-    ensures after { T.Table.valid table.old → Held (T.Table.holding table.old) → (n : Placement) → Mending (placing (T.Table.holding table.old)) n file l a p b q r → Mended (T.Table.holding table.old) (T.Table.places table.old) n result (T.Table.holding table.new) }
+    ensures after { (n : Placement) → Mending (placing (T.Table.holding table.old)) n file cut.before.first cut.before.end cut.before.board cut.behind.first cut.behind.board cut.behind.end → Remade (T.Table.holding table.old) (T.Table.places table.old) n result (T.Table.holding table.new) }
 {
-    let more = count_run(l, a) + count_run(b, r);
-    let less = count_keys(table, file, l, r);
-    if table.held() as u64 + more as u64 > table.room() as u64 + less as u64 {
-        return false;
+    let keys = FileKeys {
+        table: &*table,
+        file,
+    };
+    let more = count_run(cut.before) + count_run(cut.behind);
+    let less = keys.count_keys(cut.before.first, cut.behind.end);
+    if u64::from(table.held()) + more > u64::from(table.room()) + u64::from(less) {
+        return Err(Ground::TooManyKeys);
     }
-    drop_keys(table, file, l, r);
-    put_run(table, file, l, a, p);
-    put_run(table, file, b, r, q);
-    true
+    drop_keys(table, file, cut.before.first, cut.behind.end);
+    put_run(table, file, cut.before);
+    put_run(table, file, cut.behind);
+    Ok(())
 }

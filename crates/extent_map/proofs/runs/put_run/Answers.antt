@@ -1,57 +1,44 @@
-use Rattle.std.proofs.Common.{◌≡◌, ◌<◌, sym, refl, ap, ◌∙◌, subst, arith}
-use Rattle.blocks.specs.Blocks.{tally}
-use Rattle.extents.specs.Extents.{key_at}
-use Rattle.extents.proofs.Sizes.{next_piece}
+use Rattle.std.proofs.Common.{◌≡◌, sym, refl, ap, ◌∙◌, subst, arith}
+use Rattle.extents.specs.Extents.{Barrier, key_at}
+use Rattle.extents.proofs.Greed.{piece_fits}
+use Rattle.run_keys.specs.declared.walk.Walk.{Walk}
 use Rattle.key_rule.specs.Mends.{blend}
 use Rattle.key_rule.proofs.Tallies.{blend_empty}
-use Rattle.key_rule.proofs.Runs.{step, put_room, put_next, stored}
+use Rattle.extent_map.proofs.Walks.{put_step}
 use Rattle.extent_map.proofs.runs.put_run.Goals as goal
 
-pub loop-x-init : goal.loop-x-init
-loop-x-init g c =
-    ((λ v. v), refl, omega arith, omega arith, refl, (λ v m lay lf em fits. (lay.left, sym (blend_empty c.args.file c.args.l (key_at m) _))))
-
-pub loop-x-preserved : goal.loop-x-preserved
-loop-x-preserved g c =
-    let x = c.loop-x.x in
-    let s = c.piece_length-length.result in
-    let i = c.loop-x.invariant in
-    let e = c.store.ensures in
-    let size = next_piece x c.args.r s (omega arith) c.piece_length-length.ensures in (
-      (λ v. e.kept (i.0 v)),
-      e.room ∙ i.1,
-      omega arith,
-      omega arith,
-      omega arith,
-      (λ v m lay lf em fits.
-          let old = i.5 v m lay lf em fits in
-          let st = step m c.args.l c.args.r c.args.board x s lay old.0 i.2 c.loop-x-test.true c.requires.1.0 size.0 in
-          let room = put_room m c.args.l c.args.r c.args.board x s st c.args.file _ _ em old.1 _ lf c.requires.1.0 fits in (
-            st.next,
-            stored _ _ _ c.args.file x _ _ (e.answer (i.0 v)) (e.after (i.0 v)) (subst (λ n. tally (g.T.Table.holding c.loop-x.table) < n) (sym i.1) room)
-                ∙ put_next m c.args.l c.args.r c.args.board x s st c.args.file _ _ em old.1 c.loop-x.at i.4 i.2,
-          )),
+pub loop-key-init : goal.loop-key-init
+loop-key-init g c =
+    let w = c.walk-key-items.ensures in
+    let it = c.into_iter-key-iterator.ensures.into_iter_gives in
+    let a = ap (λ (w : Walk). w.at) it ∙ w.0 in
+    let e = ap (λ (w : Walk). w.end) it ∙ w.1 in
+    let b = ap (λ (w : Walk). w.board) it ∙ w.2 in (
+      refl,
+      omega (arith, a),
+      omega (arith, a, c.args.run.order),
+      e,
+      omega (arith, a, b),
+      (λ m lay lf em fits. (
+        subst (Barrier m) (sym a) lay.left,
+        sym (blend_empty c.args.file c.args.run.first (key_at m) _) ∙ ap (λ x. blend c.args.file c.args.run.first x (key_at m) (g.T.Table.holding c.args.table.now)) (sym a),
+      )),
     )
 
-pub returns : goal.returns
-returns g c =
-    let i = c.loop-x.invariant in
-    let e : c.loop-x.x ≡ c.args.r = omega arith in
-    record {
-      kept = i.0;
-      room = i.1;
-      after = λ v m lay lf em fits.
-          (i.5 v m lay lf em fits).1 ∙ ap (λ y. blend c.args.file c.args.l y (key_at m) (g.T.Table.holding c.args.table.now)) e;
-    }
-
-pub overflow_cast-entry : goal.overflow_cast-entry
-overflow_cast-entry g c = let size = next_piece c.loop-x.x c.args.r c.piece_length-length.result (omega arith) c.piece_length-length.ensures in omega arith
-
-pub overflow_add-x : goal.overflow_add-x
-overflow_add-x g c = let size = next_piece c.loop-x.x c.args.r c.piece_length-length.result (omega arith) c.piece_length-length.ensures in omega arith
-
-pub overflow_add-at : goal.overflow_add-at
-overflow_add-at g c = let size = next_piece c.loop-x.x c.args.r c.piece_length-length.result (omega arith) c.piece_length-length.ensures in let i = c.loop-x.invariant in omega arith
-
-pub loop-x-smaller : goal.loop-x-smaller
-loop-x-smaller g c = let size = next_piece c.loop-x.x c.args.r c.piece_length-length.result (omega arith) c.piece_length-length.ensures in omega arith
+pub loop-key-preserved : goal.loop-key-preserved
+loop-key-preserved g c =
+    let i = c.loop-key.invariant in
+    let s = c.in-Some.ensures.steps in
+    let t = c.store.ensures in
+    let w = c.loop-key.key-iterator in
+    let f = piece_fits w.at w.end s.0 in (
+      t.room ∙ i.0,
+      omega (arith, s.2),
+      omega (arith, s.2, f),
+      s.3 ∙ i.3,
+      omega (arith, s.2, s.4),
+      (λ m lay lf em fits.
+          let old = i.5 m lay lf em fits in
+          put_step m c.args.run.first c.args.run.end c.args.run.board lay c.args.run.inside c.args.file lf _ em _ fits _ _ _ w c.next.new.self c.in-Some.key
+          s i.3 i.1 i.4 old.0 old.1 (rw i.0 at t.answer) t.after),
+    )

@@ -2,8 +2,8 @@ use Rattle.std.proofs.Common.{sym, ◌∙◌}
 use Rattle.key_rule.proofs.Changes.{exact}
 use Rattle.extent_map.proofs.map.ExtentMap.keys_held.Goals as goal
 
-pub returns : goal.returns
-returns g c = record {
-  number = λ v h. c.held.ensures v ∙ sym (exact.number _ h);
-  keys = λ h. exact.keys _ h;
-}
+pub returns-clause-number : goal.returns-clause-number
+returns-clause-number g c = c.held.ensures ∙ sym (exact.number _ c.args.self.now.held)
+
+pub returns-clause-keys : goal.returns-clause-keys
+returns-clause-keys g c = exact.keys _ c.args.self.now.held

@@ -1,60 +1,42 @@
-use Rattle.std.proofs.Common.{sym, subst}
-use Rattle.maps.specs.Steps.{assigned, ground_of_assign, lowest_mapped_block}
-use Rattle.key_rule.specs.Keyed.{Held, placing}
-use Rattle.key_rule.proofs.Changes.{assign_mending, held_assigned, after_extent}
-use Rattle.key_rule.proofs.Outcomes.{granted_by, unmapped_by, mended_ok, mended_full}
+use Rattle.std.proofs.Common.{ℕ, rules, sym, ap, arith}
+use Rattle.faults.specs.declared.Layer.TheVariants.{Map}
+use Rattle.maps.specs.Steps.{ground_of_assign}
+use Rattle.key_rule.proofs.Changes.{after_extent}
+use Rattle.extent_map.proofs.Numbers.{granted, below}
+use Rattle.extent_map.proofs.Remaking.{told, assign_held, assign_outcome}
 use Rattle.extent_map.proofs.map.ExtentMapMap.assign.Goals as goal
 
-pub returns-then-mend : goal.returns-then-mend
-returns-then-mend g c =
-    let e = c.if-mend.ensures in
+pub rightward-end-requires-clause-barrier : goal.rightward-end-requires-clause-barrier
+rightward-end-requires-clause-barrier g c =
+    let e = c.in_ok-extent.extent in
+    let a = granted {X = ℕ × ℕ × ℕ} Map c.args.file c.args.first (ground_of_assign c.args.file c.args.first c.args.n c.args.board)
+    (c.args.file, c.args.first, c.args.n) (e.file, e.first, e.n) c.in_ok-extent.ensures.answer in
+    after_extent _ c.args.first c.args.n (omega (arith, e.some, ap (λ (p : ℕ × ℕ × ℕ). p.2) a.1)) c.in_default.ensures
+
+pub invariant_of-self : goal.invariant_of-self
+invariant_of-self g c =
+    let e = c.in_ok-extent.extent in
+    let a = granted {X = ℕ × ℕ × ℕ} Map c.args.file c.args.first (ground_of_assign c.args.file c.args.first c.args.n c.args.board)
+    (c.args.file, c.args.first, c.args.n) (e.file, e.first, e.n) c.in_ok-extent.ensures.answer in
+    let f = ap (λ (p : ℕ × ℕ × ℕ). p.0) a.1 in
+    let x = ap (λ (p : ℕ × ℕ × ℕ). p.1) a.1 in
+    let n = ap (λ (p : ℕ × ℕ × ℕ). p.2) a.1 in
     record {
-      kept = λ w.
-          let v = w.0 in
-          let h = w.1 in
-          let r = c.in_default.ensures.range in
-          let free = c.in_default-lowest_mapped.ensures v h in
-          let m = e.after v h (assigned (placing (g.T.Table.holding c.args.self.now.table)) c.args.file c.args.first c.args.n c.args.board)
-          (assign_mending _ c.args.file c.args.first c.args.n c.args.board _ _ _ r.0 r.3 c.leftward-l.ensures.range.0 c.rightward-r.ensures.range.0 c.leftward-l.ensures.range.1 free (c.leftward-l.ensures.found v h)
-          (c.rightward-r.ensures.found v h (after_extent _ c.args.first c.args.n r.3 free))) in
-          (e.kept v, subst Held (sym m.1) (held_assigned _ h c.args.file c.args.first c.args.n c.args.board r.0 r.2 r.4));
-      room = e.room;
-      step = λ w.
-          let v = w.0 in
-          let h = w.1 in
-          let r = c.in_default.ensures.range in
-          let free = c.in_default-lowest_mapped.ensures v h in
-          let m = e.after v h (assigned (placing (g.T.Table.holding c.args.self.now.table)) c.args.file c.args.first c.args.n c.args.board)
-          (assign_mending _ c.args.file c.args.first c.args.n c.args.board _ _ _ r.0 r.3 c.leftward-l.ensures.range.0 c.rightward-r.ensures.range.0 c.leftward-l.ensures.range.1 free (c.leftward-l.ensures.found v h)
-          (c.rightward-r.ensures.found v h (after_extent _ c.args.first c.args.n r.3 free))) in
-          granted_by (ground_of_assign c.args.file c.args.first c.args.n c.args.board) _ c.args.file c.args.first _ _ c.in_default.ensures.answer
-          (unmapped_by (lowest_mapped_block (placing (g.T.Table.holding c.args.self.now.table) c.args.file) c.args.first c.args.n) _ c.args.file _ _ free
-          (mended_ok _ _ _ _ c.args.file c.args.first m));
+      held = assign_held _ _ c.args.self.now.held _ c.args.file c.args.first c.args.n e.file f (omega (arith, f, below c.args.file _ a.0)) (omega (arith, n, e.some))
+          (omega (arith, x, n, e.within)) c.mend.result c.args.board c.leftward-left.result.block c.leftward-left.result.board c.rightward-end.result c.in_ok-extent.ensures.fits
+          c.in_default.ensures c.leftward-left.ensures.range.0 c.rightward-end.ensures.range.0 c.leftward-left.ensures.range.1 c.leftward-left.ensures.found c.rightward-end.ensures.found
+          c.mend.ensures.after;
     }
 
-pub returns-else-mend : goal.returns-else-mend
-returns-else-mend g c =
-    let e = c.if-mend.ensures in
-    record {
-      kept = λ w.
-          let v = w.0 in
-          let h = w.1 in
-          let r = c.in_default.ensures.range in
-          let free = c.in_default-lowest_mapped.ensures v h in
-          let m = e.after v h (assigned (placing (g.T.Table.holding c.args.self.now.table)) c.args.file c.args.first c.args.n c.args.board)
-          (assign_mending _ c.args.file c.args.first c.args.n c.args.board _ _ _ r.0 r.3 c.leftward-l.ensures.range.0 c.rightward-r.ensures.range.0 c.leftward-l.ensures.range.1 free (c.leftward-l.ensures.found v h)
-          (c.rightward-r.ensures.found v h (after_extent _ c.args.first c.args.n r.3 free))) in
-          (e.kept v, subst Held (sym m.1) h);
-      room = e.room;
-      step = λ w.
-          let v = w.0 in
-          let h = w.1 in
-          let r = c.in_default.ensures.range in
-          let free = c.in_default-lowest_mapped.ensures v h in
-          let m = e.after v h (assigned (placing (g.T.Table.holding c.args.self.now.table)) c.args.file c.args.first c.args.n c.args.board)
-          (assign_mending _ c.args.file c.args.first c.args.n c.args.board _ _ _ r.0 r.3 c.leftward-l.ensures.range.0 c.rightward-r.ensures.range.0 c.leftward-l.ensures.range.1 free (c.leftward-l.ensures.found v h)
-          (c.rightward-r.ensures.found v h (after_extent _ c.args.first c.args.n r.3 free))) in
-          granted_by (ground_of_assign c.args.file c.args.first c.args.n c.args.board) _ c.args.file c.args.first _ _ c.in_default.ensures.answer
-          (unmapped_by (lowest_mapped_block (placing (g.T.Table.holding c.args.self.now.table) c.args.file) c.args.first c.args.n) _ c.args.file _ _ free
-          (mended_full _ _ _ _ c.args.file c.args.first _ c.refusal-else-mend.ensures m));
-    }
+pub returns-clause-step : goal.returns-clause-step
+returns-clause-step g c =
+    let e = c.in_ok-extent.extent in
+    let a = granted {X = ℕ × ℕ × ℕ} Map c.args.file c.args.first (ground_of_assign c.args.file c.args.first c.args.n c.args.board)
+    (c.args.file, c.args.first, c.args.n) (e.file, e.first, e.n) c.in_ok-extent.ensures.answer in
+    let f = ap (λ (p : ℕ × ℕ × ℕ). p.0) a.1 in
+    let x = ap (λ (p : ℕ × ℕ × ℕ). p.1) a.1 in
+    let n = ap (λ (p : ℕ × ℕ × ℕ). p.2) a.1 in
+    assign_outcome _ _ c.args.self.now.held _ c.args.file c.args.first c.args.n e.file f (omega (arith, f, below c.args.file _ a.0)) (omega (arith, n, e.some))
+    (omega (arith, x, n, e.within)) c.mend.result c.args.board c.leftward-left.result.block c.leftward-left.result.board c.rightward-end.result c.in_ok-extent.ensures.fits
+    c.in_default.ensures c.leftward-left.ensures.range.0 c.rightward-end.ensures.range.0 c.leftward-left.ensures.range.1 c.leftward-left.ensures.found c.rightward-end.ensures.found
+    c.mend.ensures.after c.map_err.result (search rules) a.0

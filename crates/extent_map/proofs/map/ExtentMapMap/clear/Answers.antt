@@ -1,50 +1,36 @@
-use Rattle.std.proofs.Common.{sym, subst}
-use Rattle.maps.specs.Steps.{cleared, ground_of_extent}
-use Rattle.key_rule.specs.Keyed.{Held, placing}
-use Rattle.key_rule.proofs.Changes.{clear_mending, held_cleared}
-use Rattle.key_rule.proofs.Outcomes.{granted_by, mended_ok, mended_full}
+use Rattle.std.proofs.Common.{ℕ, rules, sym, ap, arith}
+use Rattle.faults.specs.declared.Layer.TheVariants.{Map}
+use Rattle.maps.specs.Steps.{ground_of_extent}
+use Rattle.extent_map.proofs.Numbers.{granted, below}
+use Rattle.extent_map.proofs.Remaking.{told, clear_held, clear_outcome}
 use Rattle.extent_map.proofs.map.ExtentMapMap.clear.Goals as goal
 
-pub returns-then-mend : goal.returns-then-mend
-returns-then-mend g c =
-    let e = c.if-mend.ensures in
+pub invariant_of-self : goal.invariant_of-self
+invariant_of-self g c =
+    let e = c.in_ok-extent.extent in
+    let a = granted {X = ℕ × ℕ × ℕ} Map c.args.file c.args.first (ground_of_extent c.args.file c.args.first c.args.n)
+    (c.args.file, c.args.first, c.args.n) (e.file, e.first, e.n) c.in_ok-extent.ensures in
+    let f = ap (λ (p : ℕ × ℕ × ℕ). p.0) a.1 in
+    let x = ap (λ (p : ℕ × ℕ × ℕ). p.1) a.1 in
+    let n = ap (λ (p : ℕ × ℕ × ℕ). p.2) a.1 in
+    let l = c.left_edge-left in
+    let r = c.right_edge-right in
     record {
-      kept = λ w.
-          let v = w.0 in
-          let h = w.1 in
-          let r = c.in_default.ensures.range in
-          let m = e.after v h (cleared (placing (g.T.Table.holding c.args.self.now.table)) c.args.file c.args.first c.args.n)
-          (clear_mending _ c.args.file c.args.first c.args.n _ _ _ _ r.0 r.3 c.left_edge-l.ensures.range.0 c.right_edge-r.ensures.range.0 (c.left_edge-l.ensures.found v h) (c.right_edge-r.ensures.found v h)) in
-          (e.kept v, subst Held (sym m.1) (held_cleared _ h c.args.file c.args.first c.args.n));
-      room = e.room;
-      step = λ w.
-          let v = w.0 in
-          let h = w.1 in
-          let r = c.in_default.ensures.range in
-          let m = e.after v h (cleared (placing (g.T.Table.holding c.args.self.now.table)) c.args.file c.args.first c.args.n)
-          (clear_mending _ c.args.file c.args.first c.args.n _ _ _ _ r.0 r.3 c.left_edge-l.ensures.range.0 c.right_edge-r.ensures.range.0 (c.left_edge-l.ensures.found v h) (c.right_edge-r.ensures.found v h)) in
-          granted_by (ground_of_extent c.args.file c.args.first c.args.n) _ c.args.file c.args.first _ _ c.in_default.ensures.answer
-          (mended_ok _ _ _ _ c.args.file c.args.first m);
+      held = clear_held _ _ c.args.self.now.held _ c.args.file c.args.first c.args.n e.file f (omega (arith, f, below c.args.file _ a.0)) (omega (arith, n, e.some))
+          (omega (arith, x, n, e.within)) c.mend.result l.result.block l.result.board r.result.block r.result.board l.ensures.range.0 r.ensures.range.0 l.ensures.found r.ensures.found
+          c.mend.ensures.after;
     }
 
-pub returns-else-mend : goal.returns-else-mend
-returns-else-mend g c =
-    let e = c.if-mend.ensures in
-    record {
-      kept = λ w.
-          let v = w.0 in
-          let h = w.1 in
-          let r = c.in_default.ensures.range in
-          let m = e.after v h (cleared (placing (g.T.Table.holding c.args.self.now.table)) c.args.file c.args.first c.args.n)
-          (clear_mending _ c.args.file c.args.first c.args.n _ _ _ _ r.0 r.3 c.left_edge-l.ensures.range.0 c.right_edge-r.ensures.range.0 (c.left_edge-l.ensures.found v h) (c.right_edge-r.ensures.found v h)) in
-          (e.kept v, subst Held (sym m.1) h);
-      room = e.room;
-      step = λ w.
-          let v = w.0 in
-          let h = w.1 in
-          let r = c.in_default.ensures.range in
-          let m = e.after v h (cleared (placing (g.T.Table.holding c.args.self.now.table)) c.args.file c.args.first c.args.n)
-          (clear_mending _ c.args.file c.args.first c.args.n _ _ _ _ r.0 r.3 c.left_edge-l.ensures.range.0 c.right_edge-r.ensures.range.0 (c.left_edge-l.ensures.found v h) (c.right_edge-r.ensures.found v h)) in
-          granted_by (ground_of_extent c.args.file c.args.first c.args.n) _ c.args.file c.args.first _ _ c.in_default.ensures.answer
-          (mended_full _ _ _ _ c.args.file c.args.first _ c.refusal-else-mend.ensures m);
-    }
+pub returns-clause-step : goal.returns-clause-step
+returns-clause-step g c =
+    let e = c.in_ok-extent.extent in
+    let a = granted {X = ℕ × ℕ × ℕ} Map c.args.file c.args.first (ground_of_extent c.args.file c.args.first c.args.n)
+    (c.args.file, c.args.first, c.args.n) (e.file, e.first, e.n) c.in_ok-extent.ensures in
+    let f = ap (λ (p : ℕ × ℕ × ℕ). p.0) a.1 in
+    let x = ap (λ (p : ℕ × ℕ × ℕ). p.1) a.1 in
+    let n = ap (λ (p : ℕ × ℕ × ℕ). p.2) a.1 in
+    let l = c.left_edge-left in
+    let r = c.right_edge-right in
+    clear_outcome _ _ c.args.self.now.held _ c.args.file c.args.first c.args.n e.file f (omega (arith, f, below c.args.file _ a.0)) (omega (arith, n, e.some))
+    (omega (arith, x, n, e.within)) c.mend.result l.result.block l.result.board r.result.block r.result.board l.ensures.range.0 r.ensures.range.0 l.ensures.found r.ensures.found
+    c.mend.ensures.after c.map_err.result (search rules) a.0

@@ -3,11 +3,8 @@ use Rattle.key_rule.specs.Keyed.{Held, placing}
 use Rattle.key_rule.proofs.Changes.{held_nothing, placing_nothing}
 use Rattle.extent_map.proofs.map.ExtentMapMap.forget_all.Goals as goal
 
-pub returns : goal.returns
-returns g c =
-    let e = c.empty.ensures in
-    record {
-      kept = λ w. (e.kept w.0, subst Held (sym (e.after w.0)) held_nothing);
-      room = e.room;
-      after = λ w. ap placing (e.after w.0) ∙ placing_nothing;
-    }
+pub invariant_of-self : goal.invariant_of-self
+invariant_of-self g c = record { held = subst Held (sym c.empty.ensures.after) held_nothing }
+
+pub returns-clause-after : goal.returns-clause-after
+returns-clause-after g c = ap placing c.empty.ensures.after ∙ placing_nothing

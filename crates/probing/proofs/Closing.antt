@@ -1,10 +1,11 @@
 -- How a hole is closed in one pass.
-use Rattle.std.proofs.Common.{◌≡◌, ℕ, ◌+◌, ◌<◌, ◌≤◌, Bool, true, false, cond, eqb, ◌≢◌, ◌⊎◌, List, length, set, Some, None, sym, refl, ap, ◌∙◌, subst, inl, inr, arith, length-set}
+use Rattle.std.proofs.Common.{◌≡◌, ℕ, ◌+◌, ◌<◌, ◌≤◌, true, false, cond, eqb, ◌≢◌, ◌⊎◌, List, length, set, Some, None, sym, refl, ap, ◌∙◌, subst, inl, inr, arith, length-set}
 use mathlib.Core.Path.{fun_ext}
 use Rattle.std.proofs.lemmas.Bool.{cases_eq, cases_lt, both_ways, cond-true, cond-false, eq-eqb, ne_eqb}
+use Rattle.std.proofs.lemmas.List.{set_comm}
 use Rattle.tables.proofs.Looks.{first_set}
 use Rattle.probing.specs.declared.slots.Slot.{Slot}
-use Rattle.probing.specs.Slots.{free, slot_at, Used, tells, look, bit, occupied, dist, home_of, Passes, Single, Reached, Closed}
+use Rattle.probing.specs.Slots.{free, used, row_in, slot_at, Used, tells, look, bit, occupied, dist, home_of, Passes, Single, Reached, Closed}
 use Rattle.probing.proofs.Distances.{dist_lt, dist_inj, dist_self, between, around}
 use Rattle.probing.specs.SlotLaws.{keyed, tells_none, tells_other, used_within, look_found, occupied_set, bit_free, at_same, at_other, use_of, has_of, across}
 
@@ -22,7 +23,7 @@ pub record Move (home : ℕ → ℕ → ℕ) (n : ℕ) (xs : List Slot) (hole j 
   pub hole_in : hole < n
   pub j_in : j < n
   pub apart : hole ≢ j
-  pub hole_free : (slot_at xs hole).used ≡ false
+  pub hole_free : used (slot_at xs hole) ≡ false
   pub j_used : Used xs j
   pub homes : (f b : ℕ) → home f b < n
   pub over : Passes home n (slot_at xs j) j hole
@@ -51,12 +52,12 @@ module _ (home : ℕ → ℕ → ℕ) (n : ℕ) (xs : List Slot) (hole j : ℕ) 
   origin q u = elim (cases_eq q hole) [
     | inl e ↦ inl (e, ap (slot_at zs) e ∙ moved_full)
     | inr a ↦ elim (cases_eq q j) [
-      | inl e ↦ absurd (both_ways (slot_at zs q).used (ap (λ (s : Slot). s.used) (ap (slot_at zs) e ∙ moved_hole)) u)
+      | inl e ↦ absurd (both_ways (used (slot_at zs q)) (ap (λ (s : Slot). used s) (ap (slot_at zs) e ∙ moved_hole)) u)
       | inr b ↦ inr (a, b, moved_rest q a b)
     ]
   ]
 
-  back : (s t : Slot) → s ≡ t → s.used ≡ true → t.used ≡ true
+  back : (s t : Slot) → s ≡ t → used s ≡ true → used t ≡ true
   back s t e u = use_of t s (sym e) u
 
   moved_single : Single xs → Single zs
@@ -74,7 +75,7 @@ module _ (home : ℕ → ℕ → ℕ) (n : ℕ) (xs : List Slot) (hole j : ℕ) 
   pub moved_look : Single xs → look zs ≡ look xs
   moved_look one_each = fun_ext (λ f. fun_ext (λ b. elim (keyed f b (slot_at xs j)) [
     | inl h ↦ look_found zs f b hole (moved_single one_each) (use_of (slot_at zs hole) (slot_at xs j) moved_full m.j_used) (has_of f b (slot_at zs hole) (slot_at xs j) moved_full h)
-        ∙ ap (λ (s : Slot). Some s.row.entry) moved_full ∙ sym (look_found xs f b j one_each m.j_used h)
+        ∙ ap (λ (s : Slot). Some (row_in s).entry) moved_full ∙ sym (look_found xs f b j one_each m.j_used h)
     | inr a ↦
         let none : tells f b (slot_at xs j) ≡ None = tells_other f b (slot_at xs j) (λ _ h. a h) in
         first_set (tells f b) free ys j free
@@ -100,7 +101,7 @@ module _ (home : ℕ → ℕ → ℕ) (n : ℕ) (xs : List Slot) (hole j : ℕ) 
   moved_closing start k age latest ls lh lj c =
       let r = c.reached in
       let in_xs : (q : ℕ) → Used xs q → q < n = λ q u. omega (arith, used_within xs q u, m.long) in
-      let in_home : (q : ℕ) → home_of home (slot_at xs q) < n = λ q. m.homes (slot_at xs q).row.file (slot_at xs q).row.block in
+      let in_home : (q : ℕ) → home_of home (slot_at xs q) < n = λ q. m.homes (row_in (slot_at xs q)).file (row_in (slot_at xs q)).block in
       let jo : age hole < age j = (r.way j hole m.j_used m.hole_in m.over).1 in
       let aj : aged age j ≡ age j = aged_other age j (λ e. m.apart (sym e)) in
       record {
@@ -181,14 +182,14 @@ stayed home n start xs hole j k age latest len ls lh lj homes bh dj d c =
         | inl m ↦ c.older q x u m lx (omega arith) p
         | inr e ↦
             let p1 : Passes home n (slot_at xs j) j x = subst (λ (z : ℕ). Passes home n (slot_at xs z) z x) e p in
-            absurd (d (around n (home_of home (slot_at xs j)) start hole j x (homes (slot_at xs j).row.file (slot_at xs j).row.block) ls lh lj lx (omega arith) (omega arith) p1))
+            absurd (d (around n (home_of home (slot_at xs j)) start hole j x (homes (row_in (slot_at xs j)).file (row_in (slot_at xs j)).block) ls lh lj lx (omega arith) (omega arith) p1))
       ];
     }
 
 -- The hole is closed when the next slot is free, or when no slot is left.
 pub settled : (home : ℕ → ℕ → ℕ) (n start : ℕ) (xs : List Slot) (hole k : ℕ) (age : ℕ → ℕ) (latest : ℕ) → length xs ≡ n → start < n → hole < n
     → ((f b : ℕ) → home f b < n) → dist n start hole < k
-    → ((n ≤ k) ⊎ ((j : ℕ) × (j < n) × (dist n start j ≡ k) × ((slot_at xs j).used ≡ false)))
+    → ((n ≤ k) ⊎ ((j : ℕ) × (j < n) × (dist n start j ≡ k) × (used (slot_at xs j) ≡ false)))
     → Closing home n start xs hole k age latest → Reached home n xs (λ x. Used xs x) age latest
 settled home n start xs hole k age latest len ls lh homes bh stop c =
     let r = c.reached in
@@ -199,10 +200,10 @@ settled home n start xs hole k age latest len ls lh homes bh stop c =
       | inr l ↦ elim stop [
         | inl end ↦ omega (arith, dist_lt n start q ls lq)
         | inr f ↦ elim (cases_eq (dist n start q) k) [
-          | inl s ↦ both_ways (slot_at xs q).used (ap (λ (z : ℕ). (slot_at xs z).used) (dist_inj n start q f.0 ls lq f.1 (s ∙ sym f.2)) ∙ f.3) u
+          | inl s ↦ both_ways (used (slot_at xs q)) (ap (λ (z : ℕ). used (slot_at xs z)) (dist_inj n start q f.0 ls lq f.1 (s ∙ sym f.2)) ∙ f.3) u
           | inr s ↦
-              let p2 = between n (home_of home (slot_at xs q)) start hole f.0 q (homes (slot_at xs q).row.file (slot_at xs q).row.block) ls lh f.1 lq (omega (arith, f.2)) (omega (arith, f.2)) p in
-              both_ways (slot_at xs f.0).used f.3 ((r.way q f.0 u f.1 p2).0 (λ e. omega (arith, f.2, ap (dist n start) e)))
+              let p2 = between n (home_of home (slot_at xs q)) start hole f.0 q (homes (row_in (slot_at xs q)).file (row_in (slot_at xs q)).block) ls lh f.1 lq (omega (arith, f.2)) (omega (arith, f.2)) p in
+              both_ways (used (slot_at xs f.0)) f.3 ((r.way q f.0 u f.1 p2).0 (λ e. omega (arith, f.2, ap (dist n start) e)))
         ]
       ]
     ]) in
@@ -213,12 +214,12 @@ settled home n start xs hole k age latest len ls lh homes bh stop c =
     }
 
 -- The hole as it was left.
-pub opening : (home : ℕ → ℕ → ℕ) (n start : ℕ) (xs : List Slot) (age : ℕ → ℕ) (latest : ℕ) → length xs ≡ n → start < n → (slot_at xs start).used ≡ false
+pub opening : (home : ℕ → ℕ → ℕ) (n start : ℕ) (xs : List Slot) (age : ℕ → ℕ) (latest : ℕ) → length xs ≡ n → start < n → used (slot_at xs start) ≡ false
     → Reached home n xs (λ x. x ≢ start → Used xs x) age latest → Closing home n start xs start 1 age latest
 opening home n start xs age latest len ls free r =
     let no : (q : ℕ) → Used xs q → dist n start q < 1 → ⊥ = λ q u l.
-    both_ways (slot_at xs q).used
-    (ap (λ (z : ℕ). (slot_at xs z).used) (dist_inj n start q start ls (omega (arith, used_within xs q u)) ls (omega (arith, dist_self n start))) ∙ free) u in
+    both_ways (used (slot_at xs q))
+    (ap (λ (z : ℕ). used (slot_at xs z)) (dist_inj n start q start ls (omega (arith, used_within xs q u)) ls (omega (arith, dist_self n start))) ∙ free) u in
     record { reached = r; clear = λ q u l p. no q u l; older = λ q x u l lx f p. absurd (no q u l) }
 
 -- ---- the pass, turn by turn
@@ -229,10 +230,11 @@ pub record Turn (home : ℕ → ℕ → ℕ) (n : ℕ) (was : List Slot) (start 
   pub from : start < n
   pub within : hole < n
   pub behind : dist n start hole < k
-  pub empty : (slot_at xs hole).used ≡ false
+  pub empty : used (slot_at xs hole) ≡ false
   pub filled : occupied xs ≡ occupied was
   pub closing : ((f b : ℕ) → home f b < n) → (age : ℕ → ℕ) (latest : ℕ) → Reached home n was (λ x. x ≢ start → Used was x) age latest
-      → (age' : ℕ → ℕ) × Closing home n start xs hole k age' latest × (look xs ≡ look was)
+      → (age' : ℕ → ℕ) × Closing home n start xs hole k age' latest
+  pub same : ((f b : ℕ) → home f b < n) → Single was → Single xs × (look xs ≡ look was)
 
 -- The slot x at j is the next, and is used.
 pub record Next (home : ℕ → ℕ → ℕ) (n : ℕ) (was : List Slot) (start : ℕ) (xs : List Slot) (hole k j : ℕ) (x : Slot) : Type 0 where
@@ -240,9 +242,9 @@ pub record Next (home : ℕ → ℕ → ℕ) (n : ℕ) (was : List Slot) (start 
   pub j_in : j < n
   pub far : dist n start j ≡ k
   pub read : x ≡ slot_at xs j
-  pub is_used : x.used ≡ true
+  pub is_used : used x ≡ true
 
-pub turn_first : (home : ℕ → ℕ → ℕ) (n : ℕ) (xs : List Slot) (start : ℕ) → length xs ≡ n → start < n → (slot_at xs start).used ≡ false
+pub turn_first : (home : ℕ → ℕ → ℕ) (n : ℕ) (xs : List Slot) (start : ℕ) → length xs ≡ n → start < n → used (slot_at xs start) ≡ false
     → Turn home n xs start xs start 1
 turn_first home n xs start len ls e = record {
   long = len;
@@ -251,22 +253,23 @@ turn_first home n xs start len ls e = record {
   behind = omega (arith, dist_self n start);
   empty = e;
   filled = refl;
-  closing = λ homes age latest r. (age, opening home n start xs age latest len ls e r, refl);
+  closing = λ homes age latest r. (age, opening home n start xs age latest len ls e r);
+  same = λ homes one_each. (one_each, refl);
 }
 
 apart_from : (home : ℕ → ℕ → ℕ) (n : ℕ) (was : List Slot) (start : ℕ) (xs : List Slot) (hole k j : ℕ) (x : Slot) → Next home n was start xs hole k j x → hole ≢ j
 apart_from home n was start xs hole k j x s e = omega (arith, s.turn.behind, s.far, ap (dist n start) e)
 
 pub turn_moved : (home : ℕ → ℕ → ℕ) (n : ℕ) (was : List Slot) (start : ℕ) (xs : List Slot) (hole k j : ℕ) (x y z : Slot) → Next home n was start xs hole k j x
-    → Passes home n x j hole → y ≡ record { used = true; row = x.row } → z ≡ free
-    → Turn home n was start (set (set xs hole y) j z) j (k + 1)
+    → Passes home n x j hole → y ≡ x → z ≡ free
+    → Turn home n was start (set (set xs j z) hole y) j (k + 1)
 turn_moved home n was start xs hole k j x y z s o ey ez =
     let t = s.turn in
     let ne = apart_from home n was start xs hole k j x s in
     let u : Used xs j = use_of (slot_at xs j) x (sym s.read) s.is_used in
     let lx : j < length xs = omega (arith, t.long, s.j_in) in
     let lh : hole < length xs = omega (arith, t.long, t.within) in
-    let y_is : y ≡ slot_at xs j = ey ∙ ap (λ (b : Bool). record { used = b; row = x.row }) (sym s.is_used) ∙ s.read in
+    let y_is : y ≡ slot_at xs j = ey ∙ s.read in
     let ys = set xs hole (slot_at xs j) in
     let zs = set ys j free in
     let l1 : length ys ≡ length xs = length-set xs hole (slot_at xs j) in
@@ -285,7 +288,7 @@ turn_moved home n was start xs hole k j x y z s o ey ez =
       from = t.from;
       within = s.j_in;
       behind = omega (arith, s.far);
-      empty = ap (λ (v : Slot). v.used) (at_same ys j free j (omega arith) refl);
+      empty = ap (λ (v : Slot). used v) (at_same ys j free j (omega arith) refl);
       filled = (
           let p = occupied_set xs hole (slot_at xs j) lh in
           let q = occupied_set ys j free (omega arith) in
@@ -296,10 +299,15 @@ turn_moved home n was start xs hole k j x y z s o ey ez =
       closing = λ homes age latest r. (
           let m = move homes in
           let c = t.closing homes age latest r in
-          (aged home n xs hole j m c.0, moved_closing home n xs hole j m start k c.0 latest t.from t.behind s.far c.1, moved_look home n xs hole j m c.1.reached.single ∙ c.2));
+          (aged home n xs hole j m c.0, moved_closing home n xs hole j m start k c.0 latest t.from t.behind s.far c.1));
+      same = λ homes one_each. (
+          let m = move homes in
+          let o = t.same homes one_each in
+          (moved_single home n xs hole j m o.0, moved_look home n xs hole j m o.0 ∙ o.1));
     } in
-    subst (λ (w : Slot). Turn home n was start (set (set xs hole w) j z) j (k + 1)) (sym y_is)
-    (subst (λ (w : Slot). Turn home n was start (set ys j w) j (k + 1)) (sym ez) done)
+    subst (λ (v : List Slot). Turn home n was start v j (k + 1)) (set_comm xs hole j y z ne)
+    (subst (λ (w : Slot). Turn home n was start (set (set xs hole w) j z) j (k + 1)) (sym y_is)
+    (subst (λ (w : Slot). Turn home n was start (set ys j w) j (k + 1)) (sym ez) done))
 
 pub turn_stayed : (home : ℕ → ℕ → ℕ) (n : ℕ) (was : List Slot) (start : ℕ) (xs : List Slot) (hole k j : ℕ) (x : Slot) → Next home n was start xs hole k j x
     → (Passes home n x j hole → ⊥) → Turn home n was start xs hole (k + 1)
@@ -317,15 +325,16 @@ turn_stayed home n was start xs hole k j x s o =
             c.0,
             stayed home n start xs hole j k c.0 latest t.long t.from t.within s.j_in homes t.behind s.far
                 (λ p. o (subst (λ (v : Slot). Passes home n v j hole) (sym s.read) p)) c.1,
-            c.2,
           ));
+      same = t.same;
     }
 
 pub turn_last : (home : ℕ → ℕ → ℕ) (n : ℕ) (was : List Slot) (start : ℕ) (xs : List Slot) (hole k : ℕ) → Turn home n was start xs hole k → ((f b : ℕ) → home f b < n)
-    → ((n ≤ k) ⊎ ((j : ℕ) × (j < n) × (dist n start j ≡ k) × ((slot_at xs j).used ≡ false))) → Closed home n was start xs
+    → ((n ≤ k) ⊎ ((j : ℕ) × (j < n) × (dist n start j ≡ k) × (used (slot_at xs j) ≡ false))) → Closed home n was start xs
 turn_last home n was start xs hole k t homes stop = record {
   closed = λ age latest r. (
       let c = t.closing homes age latest r in
-      (c.0, settled home n start xs hole k c.0 latest t.long t.from t.within homes t.behind stop c.1, c.2));
+      (c.0, settled home n start xs hole k c.0 latest t.long t.from t.within homes t.behind stop c.1));
+  same = λ one_each. (t.same homes one_each).1;
   filled = t.filled;
 }

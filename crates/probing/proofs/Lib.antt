@@ -2,3 +2,4 @@ pub mod Distances
 pub mod Closing
 pub mod Looking
 pub mod TableLaws
+pub mod Lowest

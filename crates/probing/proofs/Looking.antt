@@ -3,7 +3,7 @@ use Rattle.std.proofs.Common.{◌≡◌, ℕ, zero, suc, ◌+◌, ◌<◌, ◌�
 use Rattle.std.proofs.lemmas.Bool.{cases_eq, cond-true, cond-false, not_from_true, not_from_false, or_from, or_left, or_right, and_from, and_left, and_right, eq-eqb, ne_eqb}
 use Rattle.probing.specs.declared.slots.Slot.{Slot}
 use Rattle.probing.specs.declared.slots.Probe.TheVariants.{Found, Free, Full}
-use Rattle.probing.specs.Slots.{slot_at, Has, dist, Passed, Probed, tried, onto, ends, looked}
+use Rattle.probing.specs.Slots.{used, row_in, slot_at, Has, dist, Passed, Probed, tried, onto, ends, looked}
 use Rattle.probing.proofs.Distances.{onto_in, dist_onto, onto_dist, dist_lt}
 
 tried_at : (t : ℕ → Bool) (m j : ℕ) → j < m → ((i : ℕ) → i < j → t i ≡ false) → t j ≡ true → tried t m ≡ j + 1
@@ -21,18 +21,18 @@ tried_all t (suc m) none =
     let r = tried_all (λ i. t (i + 1)) m (λ i k. none (i + 1) (omega arith)) in
     omega arith
 
-ends_not : (f b : ℕ) (s : Slot) → s.used ≡ true → (Has f b s → ⊥) → ends f b s ≡ false
-ends_not f b s u n = or_from (not s.used) (eqb s.row.file f && eqb s.row.block b) (not_from_true s.used u) (elim (cases_eq s.row.file f) [
-  | inl p ↦ and_right (eqb s.row.file f) (eqb s.row.block b) (ne_eqb s.row.block b (λ q. n (p, q)))
-  | inr p ↦ and_left (eqb s.row.file f) (eqb s.row.block b) (ne_eqb s.row.file f p)
+ends_not : (f b : ℕ) (s : Slot) → used s ≡ true → (Has f b s → ⊥) → ends f b s ≡ false
+ends_not f b s u n = or_from (not (used s)) (eqb (row_in s).file f && eqb (row_in s).block b) (not_from_true (used s) u) (elim (cases_eq (row_in s).file f) [
+  | inl p ↦ and_right (eqb (row_in s).file f) (eqb (row_in s).block b) (ne_eqb (row_in s).block b (λ q. n (p, q)))
+  | inr p ↦ and_left (eqb (row_in s).file f) (eqb (row_in s).block b) (ne_eqb (row_in s).file f p)
 ])
 
-ends_free : (f b : ℕ) (s : Slot) → s.used ≡ false → ends f b s ≡ true
-ends_free f b s u = or_left (not s.used) (eqb s.row.file f && eqb s.row.block b) (not_from_false s.used u)
+ends_free : (f b : ℕ) (s : Slot) → used s ≡ false → ends f b s ≡ true
+ends_free f b s u = or_left (not (used s)) (eqb (row_in s).file f && eqb (row_in s).block b) (not_from_false (used s) u)
 
 ends_key : (f b : ℕ) (s : Slot) → Has f b s → ends f b s ≡ true
-ends_key f b s h = or_right (not s.used) (eqb s.row.file f && eqb s.row.block b)
-    (and_from (eqb s.row.file f) (eqb s.row.block b) (eq-eqb s.row.file f h.0) (eq-eqb s.row.block b h.1))
+ends_key f b s h = or_right (not (used s)) (eqb (row_in s).file f && eqb (row_in s).block b)
+    (and_from (eqb (row_in s).file f) (eqb (row_in s).block b) (eq-eqb (row_in s).file f h.0) (eq-eqb (row_in s).block b h.1))
 
 module _ (n : ℕ) (xs : List Slot) (from f b : ℕ) (l : from < n) where
   abbrev t : ℕ → Bool

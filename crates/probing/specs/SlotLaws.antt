@@ -1,47 +1,57 @@
 -- What each change of one slot means.
-use Rattle.std.specs.Prelude.{◌≡◌, ℕ, zero, suc, ◌+◌, ◌<◌, ◌≤◌, true, false, ◌≢◌, ◌⊎◌, List, [], ◌∷◌, ◌++◌, length, set, Some, None, refl}
+use Rattle.std.specs.Prelude.{◌≡◌, ℕ, zero, suc, ◌+◌, ◌<◌, ◌≤◌, true, false, ◌≢◌, ◌⊎◌, List, [], ◌∷◌, length, set, replicate, is_some, unwrap_or, Some, None, Option, refl}
 use Rattle.std.proofs.Common.{sym, ap, ◌∙◌, inl, inr, arith, length-set, get_or-set_same, get_or-set_other}
+use Rattle.std.specs.Option.{option_map}
 use Rattle.std.proofs.lemmas.List.{get_or_past}
 use Rattle.std.proofs.lemmas.Bool.{cases_eq, cases_lt, cases_Bool, both_ways}
 use Rattle.blocks.specs.declared.Entry.{Entry}
 use Rattle.blocks.specs.Blocks.{changed, only}
+use Rattle.tables.specs.declared.row.Row.{Row}
+use Rattle.tables.specs.Rows.{blank}
 use Rattle.tables.proofs.Looks.{first_none, first_only, first_set, says_here, says_none, changed_by}
 use Rattle.probing.specs.declared.slots.Slot.{Slot}
-use Rattle.probing.specs.Slots.{free, slot_at, Used, tells, look, bit, occupied, Has, Single}
+use Rattle.probing.specs.Slots.{free, used, row_in, slot_at, Used, tells, look, bit, occupied, Has, Single}
 
 pub keyed : (f b : ℕ) (s : Slot) → Has f b s ⊎ (Has f b s → ⊥)
-keyed f b s = elim (cases_eq s.row.file f) [
-  | inl p ↦ elim (cases_eq s.row.block b) [ inl q ↦ inl (p, q) | inr q ↦ inr (λ h. q h.1) ]
+keyed f b s = elim (cases_eq (row_in s).file f) [
+  | inl p ↦ elim (cases_eq (row_in s).block b) [ inl q ↦ inl (p, q) | inr q ↦ inr (λ h. q h.1) ]
   | inr p ↦ inr (λ h. p h.0)
 ]
 
 -- ---- one slot
 
-pub tells_none : (f b : ℕ) (s : Slot) → s.used ≡ false → tells f b s ≡ None
+pub tells_none : (f b : ℕ) (s : Slot) → used s ≡ false → tells f b s ≡ None
 tells_none f b s e = rw e
 
-pub tells_here : (f b : ℕ) (s : Slot) → s.used ≡ true → Has f b s → tells f b s ≡ Some s.row.entry
-tells_here f b s u h = rw u (says_here f b s.row h.0 h.1)
+pub tells_here : (f b : ℕ) (s : Slot) → used s ≡ true → Has f b s → tells f b s ≡ Some (row_in s).entry
+tells_here f b s u h = rw u (says_here f b (row_in s) h.0 h.1)
 
-pub tells_other : (f b : ℕ) (s : Slot) → (s.used ≡ true → Has f b s → ⊥) → tells f b s ≡ None
-tells_other f b s n = elim (cases_Bool s.used) [
-  | inl u ↦ rw u (says_none f b s.row (λ p q. n u (p, q)))
+pub tells_other : (f b : ℕ) (s : Slot) → (used s ≡ true → Has f b s → ⊥) → tells f b s ≡ None
+tells_other f b s n = elim (cases_Bool (used s)) [
+  | inl u ↦ rw u (says_none f b (row_in s) (λ p q. n u (p, q)))
   | inr u ↦ tells_none f b s u
 ]
 
 pub used_within : (xs : List Slot) (q : ℕ) → Used xs q → q < length xs
 used_within xs q u = elim (cases_lt q (length xs)) [
   | inl l ↦ l
-  | inr l ↦ absurd (both_ways (slot_at xs q).used (ap (λ (s : Slot). s.used) (get_or_past xs q free l)) u)
+  | inr l ↦ absurd (both_ways (used (slot_at xs q)) (ap (λ (s : Slot). used s) (get_or_past xs q free l)) u)
 ]
 
 -- ---- what the slots mean
 
-pub look_found : (xs : List Slot) (f b i : ℕ) → Single xs → Used xs i → Has f b (slot_at xs i) → look xs f b ≡ Some (slot_at xs i).row.entry
+pub look_found : (xs : List Slot) (f b i : ℕ) → Single xs → Used xs i → Has f b (slot_at xs i) → look xs f b ≡ Some (row_in (slot_at xs i)).entry
 look_found xs f b i one_each u h =
     first_only (tells f b) free xs i (used_within xs i u)
     (λ j m n. tells_other f b (slot_at xs j) (λ v k. n (one_each j i v u (k.0 ∙ sym h.0, k.1 ∙ sym h.1))))
     ∙ tells_here f b (slot_at xs i) u h
+
+entry_in : (o : Option Row) → is_some o ≡ true → option_map (λ (r : Row). r.entry) o ≡ Some (unwrap_or o blank).entry
+entry_in None u = absurd (both_ways false refl u)
+entry_in (Some r) u = refl
+
+pub entry_found : (xs : List Slot) (f b i : ℕ) → Single xs → Used xs i → Has f b (slot_at xs i) → option_map (λ (r : Row). r.entry) (slot_at xs i).row ≡ look xs f b
+entry_found xs f b i one_each u h = entry_in (slot_at xs i).row u ∙ sym (look_found xs f b i one_each u h)
 
 pub look_none : (xs : List Slot) (f b : ℕ) → ((q : ℕ) → Used xs q → Has f b (slot_at xs q) → ⊥) → look xs f b ≡ None
 look_none xs f b n = first_none (tells f b) free xs (λ q m. tells_other f b (slot_at xs q) (λ u h. n q u h))
@@ -53,14 +63,14 @@ occupied_set [] i y l = absurd (omega arith)
 occupied_set (x ∷ xs) zero y l = omega arith
 occupied_set (x ∷ xs) (suc i) y l = omega (arith, occupied_set xs i y (omega arith))
 
-pub bit_used : (s : Slot) → s.used ≡ true → bit s ≡ 1
+pub bit_used : (s : Slot) → used s ≡ true → bit s ≡ 1
 bit_used s u = rw u
 
-pub bit_free : (s : Slot) → s.used ≡ false → bit s ≡ 0
+pub bit_free : (s : Slot) → used s ≡ false → bit s ≡ 0
 bit_free s u = rw u
 
 bit_le : (s : Slot) → bit s ≤ 1
-bit_le s = elim (cases_Bool s.used) [ inl u ↦ rw u (omega arith) | inr u ↦ rw u (omega arith) ]
+bit_le s = elim (cases_Bool (used s)) [ inl u ↦ rw u (omega arith) | inr u ↦ rw u (omega arith) ]
 
 pub occupied_le : (xs : List Slot) → occupied xs ≤ length xs
 occupied_le [] = omega arith
@@ -70,20 +80,19 @@ pub occupied_all : (xs : List Slot) → ((x : ℕ) → x < length xs → Used xs
 occupied_all [] h = refl
 occupied_all (x ∷ xs) h = omega (arith, bit_used x (h 0 (omega arith)), occupied_all xs (λ i l. h (suc i) (omega arith)))
 
-pub occupied_free : (xs : List Slot) (i : ℕ) → i < length xs → (slot_at xs i).used ≡ false → occupied xs < length xs
+pub occupied_free : (xs : List Slot) (i : ℕ) → i < length xs → used (slot_at xs i) ≡ false → occupied xs < length xs
 occupied_free [] i l u = absurd (omega arith)
 occupied_free (x ∷ xs) zero l u = omega (arith, bit_free x u, occupied_le xs)
 occupied_free (x ∷ xs) (suc i) l u = omega (arith, occupied_free xs i (omega arith) u, bit_le x)
 
-pub occupied_none : (xs : List Slot) → ((x : ℕ) → (slot_at xs x).used ≡ false) → occupied xs ≡ 0
+pub occupied_none : (xs : List Slot) → ((x : ℕ) → used (slot_at xs x) ≡ false) → occupied xs ≡ 0
 occupied_none [] h = refl
 occupied_none (x ∷ xs) h = omega (arith, bit_free x (h 0), occupied_none xs (λ i. h (suc i)))
 
-pub push_free : (xs : List Slot) (s : Slot) → ((x : ℕ) → (slot_at xs x).used ≡ false) → s.used ≡ false → (x : ℕ) → (slot_at (xs ++ s ∷ []) x).used ≡ false
-push_free [] s h e zero = e
-push_free [] s h e (suc x) = refl
-push_free (y ∷ xs) s h e zero = h 0
-push_free (y ∷ xs) s h e (suc x) = push_free xs s (λ i. h (suc i)) e x
+pub all_free_at : (n x : ℕ) → used (slot_at (replicate n free) x) ≡ false
+all_free_at zero x = refl
+all_free_at (suc n) zero = refl
+all_free_at (suc n) (suc x) = all_free_at n x
 
 -- ---- one slot is changed
 
@@ -93,21 +102,21 @@ at_same xs i y q l e = ap (slot_at (set xs i y)) e ∙ get_or-set_same xs i y fr
 pub at_other : (xs : List Slot) (i : ℕ) (y : Slot) (q : ℕ) → q ≢ i → slot_at (set xs i y) q ≡ slot_at xs q
 at_other xs i y q n = get_or-set_other xs i q y free n
 
-pub use_of : (s t : Slot) → s ≡ t → t.used ≡ true → s.used ≡ true
-use_of s t e u = ap (λ (s : Slot). s.used) e ∙ u
+pub use_of : (s t : Slot) → s ≡ t → used t ≡ true → used s ≡ true
+use_of s t e u = ap (λ (s : Slot). used s) e ∙ u
 
 pub has_of : (f b : ℕ) (s t : Slot) → s ≡ t → Has f b t → Has f b s
-has_of f b s t e h = (ap (λ (s : Slot). s.row.file) e ∙ h.0, ap (λ (s : Slot). s.row.block) e ∙ h.1)
+has_of f b s t e h = (ap (λ (s : Slot). (row_in s).file) e ∙ h.0, ap (λ (s : Slot). (row_in s).block) e ∙ h.1)
 
 -- The same holds of slots that are the same.
-pub across : (s s' t t' : Slot) → s ≡ s' → t ≡ t' → Has t.row.file t.row.block s → Has t'.row.file t'.row.block s'
+pub across : (s s' t t' : Slot) → s ≡ s' → t ≡ t' → Has (row_in t).file (row_in t).block s → Has (row_in t').file (row_in t').block s'
 across s s' t t' p q h = (
-  sym (ap (λ (s : Slot). s.row.file) p) ∙ h.0 ∙ ap (λ (s : Slot). s.row.file) q,
-  sym (ap (λ (s : Slot). s.row.block) p) ∙ h.1 ∙ ap (λ (s : Slot). s.row.block) q,
+  sym (ap (λ (s : Slot). (row_in s).file) p) ∙ h.0 ∙ ap (λ (s : Slot). (row_in s).file) q,
+  sym (ap (λ (s : Slot). (row_in s).block) p) ∙ h.1 ∙ ap (λ (s : Slot). (row_in s).block) q,
 )
 
 pub set_single : (xs : List Slot) (i : ℕ) (y : Slot) → i < length xs → Single xs
-    → (y.used ≡ true → (q : ℕ) → Used xs q → q ≢ i → Has y.row.file y.row.block (slot_at xs q) → ⊥) → Single (set xs i y)
+    → (used y ≡ true → (q : ℕ) → Used xs q → q ≢ i → Has (row_in y).file (row_in y).block (slot_at xs q) → ⊥) → Single (set xs i y)
 set_single xs i y l one_each new p q up uq h =
     let ys = set xs i y in
     elim (cases_eq p i) [
@@ -135,10 +144,10 @@ set_single xs i y l one_each new p q up uq h =
 
 -- A slot is filled with a key that no other slot has.
 pub fill_after : (xs : List Slot) (f b i : ℕ) (e : Entry) → i < length xs
-    → ((q : ℕ) → Used xs q → q ≢ i → Has f b (slot_at xs q) → ⊥) → ((slot_at xs i).used ≡ true → Has f b (slot_at xs i))
-    → look (set xs i (record { used = true; row = record { file = f; block = b; entry = e } })) ≡ changed (look xs) f (only b) (λ _. Some e)
+    → ((q : ℕ) → Used xs q → q ≢ i → Has f b (slot_at xs q) → ⊥) → (used (slot_at xs i) ≡ true → Has f b (slot_at xs i))
+    → look (set xs i (record { row = Some (record { file = f; block = b; entry = e }) })) ≡ changed (look xs) f (only b) (λ _. Some e)
 fill_after xs f b i e l new old =
-    let y : Slot = record { used = true; row = record { file = f; block = b; entry = e } } in
+    let y : Slot = record { row = Some (record { file = f; block = b; entry = e }) } in
     let ys = set xs i y in
     let len : length ys ≡ length xs = length-set xs i y in
     changed_by (look xs) (look ys) f b (Some e)

@@ -2,5 +2,6 @@
 
 #![tactic(auto)]
 
+mod rows;
 mod slots;
 pub mod table;

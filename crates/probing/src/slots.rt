@@ -1,52 +1,19 @@
 //! The slots of a table, whatever its spread.
 
-ghost use Rattle.std.specs.Prelude.{◌≡◌, ℕ, ◌+◌, ◌-◌, ◌<◌, ◌≤◌, true, false, length, IfOk, vec_len};
+ghost use Rattle.std.specs.Prelude.{◌≡◌, ℕ, ◌+◌, ◌-◌, ◌<◌, ◌≤◌, false, length, IfOk, vec_len};
 ghost use Rattle.std.specs.Borrow.{sem, follows};
 ghost use Rattle.std.specs.Vec.{with_item};
 ghost use Rattle.probing.specs.contracts.slots.Slots.{the_row};
 ghost use Rattle.probing.specs.contracts.slots.Slot.{the_row as slot_row};
-ghost use Rattle.probing.specs.Slots.{free, slot_at, dist, Probed, Within, looked, Best, Lower};
+ghost use Rattle.probing.specs.Slots.{used, slot_at, dist, Probed, Within, looked, Best};
 
-use blocks::Entry;
 use std::alloc::{AllocError, Global};
 use tables::row::Row;
 
 /// A place for a row.
 #[derive(Clone, Copy)]
 pub struct Slot {
-    pub used: bool,
-    pub row: Row,
-}
-
-impl Slot {
-    fn empty() -> Slot
-        ensures { result ≡ free }
-    {
-        Slot {
-            used: false,
-            row: Row {
-                file: 0,
-                block: 0,
-                entry: Entry {
-                    length: 0,
-                    board: 0,
-                },
-            },
-        }
-    }
-
-    pub fn fill(&mut self, row: Row)
-        ensures { self.new ≡ record { used = true; row = row } }
-    {
-        self.used = true;
-        self.row = row;
-    }
-
-    pub fn clear(&mut self)
-        ensures { self.new ≡ free }
-    {
-        *self = Slot::empty();
-    }
+    pub row: Option<Row>,
 }
 
 /// What a search comes to: the key, a free slot, or neither.
@@ -89,12 +56,9 @@ pub struct Slots {
 impl Slots {
     /// So many free slots.
     pub fn new(heap: Global, n: u32) -> Result<Slots, AllocError>
-        ensures { IfOk result (λ t. (vec_len t.slots ≡ n) × ((x : ℕ) → (slot_at t.slots.items x).used ≡ false)) }
+        ensures { IfOk result (λ t. (vec_len t.slots ≡ n) × ((x : ℕ) → used (slot_at t.slots.items x) ≡ false)) }
     {
-        let mut slots = Vec::with_capacity(heap, n as usize)?;
-        for i in 0..n as usize {
-            slots.push_reserved(Slot::empty());
-        }
+        let slots = vec![in heap; Slot { row: None }; n as usize]?;
         Ok(Slots { slots })
     }
 
@@ -114,7 +78,8 @@ impl Slots {
     /// Lends a slot to be changed.
     pub fn slot_mut(&mut self, i: usize) -> &mut Slot
         requires { i < vec_len self.old.slots }
-        ensures* { sem 𝓛 (follows the_row slot_row self.entry.ghost_name result.ghost_name (λ w. record { slots = with_item self.old.slots i w })) }
+        ensures* writes_back { sem 𝓛 (follows the_row slot_row self.entry.ghost_name result.ghost_name (λ w. record { slots = with_item self.old.slots i w })) }
+        ensures value { result.now ≡ slot_at self.old.slots.items i }
     {
         &mut self.slots[i]
     }
@@ -130,11 +95,10 @@ impl Slots {
         }
         for k in 0..n {
             let place = onward(n, from, k);
-            let slot = self.slots[place];
-            if !slot.used {
+            let Some(row) = self.slots[place].row else {
                 return Probe::Free(place);
-            }
-            if slot.row.file == file && slot.row.block == block {
+            };
+            if row.file == file && row.block == block {
                 return Probe::Found(place);
             }
         }
@@ -157,38 +121,17 @@ impl Slots {
     pub fn lowest(&self, file: u16, block: u16) -> Option<Row>
         ensures { Best self.now.slots.items file block (vec_len self.now.slots) result }
     {
-        let mut best = None;
-        for i in 0..self.slots.len() {
-            let slot = self.slots[i];
-            if slot.used && slot.row.file == file && slot.row.block >= block {
-                best = lower(best, slot.row);
-            }
-        }
-        best
+        self.slots
+            .iter()
+            .filter_map(|slot| slot.row)
+            .filter(|row| row.file == file && row.block >= block)
+            .min_by_key(|row| row.block)
     }
 
     pub fn clear(&mut self)
         ensures len { vec_len self.new.slots ≡ vec_len self.old.slots }
-        ensures cleared { (x : ℕ) → (slot_at self.new.slots.items x).used ≡ false }
+        ensures cleared { (x : ℕ) → used (slot_at self.new.slots.items x) ≡ false }
     {
-        for i in 0..self.slots.len() {
-            self.slots[i].clear();
-        }
-    }
-}
-
-/// The row with the lower block.
-fn lower(best: Option<Row>, row: Row) -> Option<Row>
-    ensures { Lower best row result }
-{
-    match best {
-        Some(old) => {
-            if old.block <= row.block {
-                Some(old)
-            } else {
-                Some(row)
-            }
-        }
-        None => Some(row),
+        self.slots.fill(Slot { row: None });
     }
 }

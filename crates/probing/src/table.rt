@@ -2,11 +2,12 @@
 
 ghost use Rattle.std.specs.Prelude.{◌≡◌, ℕ, ◌<◌, min, false, IfOk, vec_len};
 ghost use Rattle.tables.specs.Holding.{nothing};
-ghost use Rattle.probing.specs.Slots.{slot_at, Closed};
-ghost use Rattle.probing.specs.Probing.{Valid, holding_of, looked_in};
+ghost use Rattle.probing.specs.Slots.{used, slot_at, Probed, Closed};
+ghost use Rattle.probing.specs.Probing.{home_in, holding_of, looked_in};
 ghost use Rattle.std.proofs.Common.{arith};
 ghost use Rattle.probing.specs.SlotLaws.{occupied_le};
 
+pub use crate::rows::ProbingTable;
 use crate::slots::*;
 use blocks::Entry;
 use std::alloc::{AllocError, Global};
@@ -14,22 +15,12 @@ use tables::row::Row;
 use tables::spread::Spread;
 use tables::table::Table;
 
-/// Keys in slots, each in the first that was free from its place on, going round.
-/// The memory of all slots is taken when the table is made.
-#[derive(Drop)]
-pub struct ProbingTable<S> {
-    slots: Slots,
-    held: u32,
-    room: u32,
-    spread: S,
-}
-
 impl<S: Spread> ProbingTable<S> {
     /// A table with room for n keys, 2,048 at most.
     pub fn new(heap: Global, n: u32, spread: S) -> Result<ProbingTable<S>, AllocError>
     where
         S: Drop,
-        ensures { IfOk result (λ t. Valid S.Spread.place t × (holding_of t ≡ nothing) × (t.room ≡ min n 2048)) }
+        ensures { IfOk result (λ t. (holding_of t ≡ nothing) × (t.room ≡ min n 2048)) }
     {
         let room = n.min(2048);
         let slots = Slots::new(heap, room)?;
@@ -41,9 +32,17 @@ impl<S: Spread> ProbingTable<S> {
         })
     }
 
+    /// Searches for a key.
+    fn probe(&self, file: u16, block: u16) -> Probe
+        ensures { Probed self.now.room self.now.slots.slots.items (home_in self.now file block) file block result }
+    {
+        let home = self.spread.place_of(file, block, self.room);
+        self.slots.search(home as usize, file, block)
+    }
+
     /// How many rows a look-up of a key looks at.
     pub fn rows_looked_at(&self, file: u16, block: u16) -> usize
-        ensures { Valid S.Spread.place self.now → result ≡ looked_in S.Spread.place self.now file block }
+        ensures { result ≡ looked_in self.now file block }
     {
         let home = self.spread.place_of(file, block, self.room);
         self.slots.looked(home as usize, file, block)
@@ -53,7 +52,7 @@ impl<S: Spread> ProbingTable<S> {
 /// Closes the hole that a key left.
 /// One pass over the slots that follow, up to a free one: a key that is searched for over the hole moves into it, and leaves the hole where it was.
 fn close<S: Spread>(slots: &mut Slots, spread: &S, room: u32, start: usize)
-    requires { (start < vec_len slots.old.slots) × ((slot_at slots.old.slots.items start).used ≡ false) }
+    requires { (start < vec_len slots.old.slots) × (used (slot_at slots.old.slots.items start) ≡ false) }
     ensures len { vec_len slots.new.slots ≡ vec_len slots.old.slots }
     ensures closed { vec_len slots.old.slots ≡ room → Closed (λ f b. S.Spread.place spread.now f b room) room slots.old.slots.items start slots.new.slots.items }
 {
@@ -61,30 +60,27 @@ fn close<S: Spread>(slots: &mut Slots, spread: &S, room: u32, start: usize)
     let mut hole = start;
     for k in 1..n {
         let place = onward(n, start, k);
-        let slot = slots.slot(place);
-        if !slot.used {
+        let Some(row) = slots.slot(place).row else {
             return;
-        }
-        let home = spread.place_of(slot.row.file, slot.row.block, room) as usize;
+        };
+        let home = spread.place_of(row.file, row.block, room) as usize;
         if distance(n, home, place) <= distance(n, home, hole) {
             continue;
         }
-        slots.slot_mut(hole).fill(slot.row);
-        slots.slot_mut(place).clear();
+        let moved = slots.slot_mut(place).row.take();
+        slots.slot_mut(hole).row = moved;
         hole = place;
     }
 }
 
 impl<S: Spread> Table for ProbingTable<S> {
-    ghost valid = { Valid S.Spread.place };
-
     ghost holding = { holding_of };
 
     ghost places = { λ t. t.room };
 
-    ghost bounded = { λ t v. omega (arith, occupied_le t.slots.slots.items, v.counted, v.filled, v.long) };
+    ghost bounded = { λ t. omega (arith, occupied_le t.slots.slots.items, t.sound.counted, t.sound.filled, t.sound.long) };
 
-    ghost numbered = { λ t v. v.numbered };
+    ghost numbered = { λ t. t.sound.numbered };
 
     fn room(&self) -> u32 {
         self.room
@@ -100,9 +96,8 @@ impl<S: Spread> Table for ProbingTable<S> {
     }
 
     fn find(&self, file: u16, block: u16) -> Option<Entry> {
-        let home = self.spread.place_of(file, block, self.room);
-        match self.slots.search(home as usize, file, block) {
-            Probe::Found(i) => Some(self.slots.slot(i).row.entry),
+        match self.probe(file, block) {
+            Probe::Found(i) => self.slots.slot(i).row.map(|row| row.entry),
             Probe::Free(_) => None,
             Probe::Full => None,
         }
@@ -110,15 +105,14 @@ impl<S: Spread> Table for ProbingTable<S> {
 
     fn store(&mut self, file: u16, block: u16, entry: Entry) -> bool {
         let row = Row { file, block, entry };
-        let home = self.spread.place_of(file, block, self.room);
-        match self.slots.search(home as usize, file, block) {
+        match self.probe(file, block) {
             Probe::Found(at) => {
-                self.slots.slot_mut(at).fill(row);
+                self.slots.slot_mut(at).row = Some(row);
                 true
             }
             Probe::Free(i) => {
-                self.slots.slot_mut(i).fill(row);
-                self.held = self.held.saturating_add(1);
+                self.slots.slot_mut(i).row = Some(row);
+                self.held += 1;
                 true
             }
             Probe::Full => false,
@@ -126,12 +120,11 @@ impl<S: Spread> Table for ProbingTable<S> {
     }
 
     fn remove(&mut self, file: u16, block: u16) -> bool {
-        let home = self.spread.place_of(file, block, self.room);
-        match self.slots.search(home as usize, file, block) {
+        match self.probe(file, block) {
             Probe::Found(i) => {
-                self.slots.slot_mut(i).clear();
+                self.slots.slot_mut(i).row = None;
                 close(&mut self.slots, &self.spread, self.room, i);
-                self.held = self.held.saturating_sub(1);
+                self.held -= 1;
                 true
             }
             Probe::Free(_) => false,

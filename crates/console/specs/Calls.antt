@@ -1,17 +1,15 @@
 -- What a call of the console answers and prints, and how its parts reply.
-use Rattle.std.specs.Prelude.{◌≡◌, ℕ, List, ◌++◌, length, drop, Some, None, Ok, Err, Option, Result}
+use Rattle.std.specs.Prelude.{◌≡◌, ℕ, List, ◌++◌, length, drop, Some, None, Ok, Err, Option, Result, codes}
 use Rattle.faults.specs.declared.Fault.{Fault}
 use Rattle.faults.specs.declared.Ground.{Ground}
 use Rattle.faults.specs.declared.Layer.TheVariants.{Console}
+use Rattle.faults.specs.Answers.{refused_by}
 use Rattle.blocks.specs.Blocks.{Placement}
 use Rattle.look_ups.specs.declared.Found.{Found}
-use Rattle.tables.specs.Holding.{Holding}
-use Rattle.key_rule.specs.Keyed.{Held, placing}
-use Rattle.extent_map.specs.declared.map.ExtentMap.{ExtentMap}
 use Rattle.commands.specs.declared.command.Command.{Command}
 use Rattle.commands.specs.declared.reply.Reply.{Reply}
 use Rattle.commands.specs.declared.reply.Reply.TheVariants.{Granted}
-use Rattle.replies.specs.Console.{console_room, ground_of_console, refusal, found_reply, reply_to, transcript}
+use Rattle.replies.specs.Console.{ground_of_console, refusal, found_reply, reply_to, transcript}
 use Rattle.console.specs.declared.ConsoleError.{ConsoleError}
 use Rattle.console.specs.declared.ConsoleError.TheVariants.{Refused, NoMemory}
 
@@ -19,7 +17,7 @@ use Rattle.console.specs.declared.ConsoleError.TheVariants.{Refused, NoMemory}
 
 -- the console's refusal, which names no file and no block
 abbrev pub console_fault : (ground : Ground) → Fault
-console_fault g = record { ground = g; layer = Console; file = 0; block = 0 }
+console_fault g = refused_by Console g 0 0
 
 -- a text printed at the front of a buffer; what lies behind it stays
 abbrev pub printed_over : List ℕ → List ℕ → List ℕ
@@ -47,6 +45,11 @@ Answered input output (Ok n) after = (Ok n ≡ console_answer input (length outp
 Answered input output (Err (Refused f)) after = (Err (Refused f) ≡ console_answer input (length output)) × (after ≡ console_output input output)
 Answered input output (Err NoMemory) after = (ground_of_console (length input) (length output) ≡ None) × (after ≡ output)
 
+-- what is said of a call that prints nothing
+abbrev pub failure_text : ConsoleError → List ℕ
+failure_text (Refused f) = codes "the console refuses the input"
+failure_text NoMemory = codes "there is not enough memory"
+
 -- ---- replies
 
 -- the reply to a change, after which so many keys are held
@@ -61,16 +64,6 @@ found_by (Err f) = refusal f
 
 -- ---- the map
 
--- The map that the console works on is as its own calls left it, and has the console's room.
-pub record Ready {T : Type 0} (valid : T → Type 0) (holding : T → Holding) (places : T → ℕ) (map : ExtentMap T) : Type 0 where
-  pub sound : valid map.table
-  pub held : Held (holding map.table)
-  pub room : places map.table ≡ console_room
-
--- where each block lies
-abbrev pub placed_by : {T : Type 0} → (T → Holding) → ExtentMap T → Placement
-placed_by holding map = placing (holding map.table)
-
 -- The reply to a command, and the placement that it leaves, are those that are asked for.
-abbrev pub Replied : {T : Type 0} → (T → Holding) → ExtentMap T → Option Command → Reply → ExtentMap T → Type 0
-Replied holding before command reply after = ◌≡◌ {A = Reply × Placement} (reply, placed_by holding after) (reply_to (placed_by holding before) command)
+abbrev pub Replied : Placement → Option Command → Reply → Placement → Type 0
+Replied before command reply after = ◌≡◌ {A = Reply × Placement} (reply, after) (reply_to before command)

@@ -2,15 +2,17 @@
 
 #![tactic(auto)]
 
-ghost use Rattle.std.specs.Prelude.{◌≡◌, ◌≤◌, length, IfOk};
+ghost use Rattle.std.specs.Prelude.{◌≡◌, ◌≤◌, length, Some, IfOk};
 ghost use Rattle.replies.specs.Console.{ground_of_console};
 ghost use Rattle.console.specs.declared.ConsoleError.TheVariants.{NoMemory};
-ghost use Rattle.console.specs.Calls.{Answered};
+ghost use Rattle.console.specs.Calls.{failure_text, Answered};
 
 use extent_map::map::ExtentMap;
 use faults::{Fault, Ground, Layer};
 use probing::table::ProbingTable;
 use std::alloc::{AllocError, Global};
+use std::error::Error;
+use std::fmt;
 use tables::spread::Mixing;
 
 mod printing;
@@ -31,6 +33,19 @@ pub enum ConsoleError {
     NoMemory,
 }
 
+impl fmt::Display for ConsoleError {
+    ghost output = { λ error. Some (failure_text error) };
+
+    fn fmt<W: fmt::Write>(&self, f: &mut fmt::Formatter<W>) -> fmt::Result {
+        f.write_str(match self {
+            Self::Refused(_) => "the console refuses the input",
+            Self::NoMemory => "there is not enough memory",
+        })
+    }
+}
+
+impl Error for ConsoleError {}
+
 impl From<AllocError> for ConsoleError {
     ghost from_gives = { λ _ r. r ≡ NoMemory };
 
@@ -43,11 +58,7 @@ impl From<AllocError> for ConsoleError {
 fn console_ground(input: usize, output: usize) -> Option<Ground>
     ensures { result ≡ ground_of_console input output }
 {
-    if input > LONGEST_INPUT || output < 5 * input + 5 {
-        Some(Ground::Buffer)
-    } else {
-        None
-    }
+    (input > LONGEST_INPUT || output < 5 * input + 5).then_some(Ground::Buffer)
 }
 
 /// Prints the replies to the lines of a text at the front of the output, and tells how many bytes they have.
@@ -57,14 +68,9 @@ pub fn print_replies(heap: Global, input: &[u8], output: &mut [u8]) -> Result<us
     ensures answered { Answered input.now output.old result output.new }
     ensures inside { IfOk result (λ n. n ≤ length output.new) }
 {
-    if let Some(ground) = console_ground(input.len(), output.len()) {
-        return Err(ConsoleError::Refused(Fault {
-            ground,
-            layer: Layer::Console,
-            file: 0,
-            block: 0,
-        }));
-    }
+    Layer::Console
+        .grant_unless(console_ground(input.len(), output.len()), 0, 0)
+        .map_err(ConsoleError::Refused)?;
     let mut map = ExtentMap::new(ProbingTable::new(heap, ROOM, Mixing)?);
     Ok(printing::answer_lines(&mut map, input, output))
 }

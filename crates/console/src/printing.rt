@@ -3,13 +3,14 @@
 ghost use Rattle.std.specs.Prelude.{◌≡◌, ◌+◌, ◌≤◌, length, None};
 ghost use Rattle.memory.specs.Memory.{overlaid};
 ghost use Rattle.maps.specs.Steps.{nowhere};
-ghost use Rattle.replies.specs.Console.{ground_of_console, transcript};
-ghost use Rattle.console.specs.Calls.{Ready, placed_by, printed_over};
+ghost use Rattle.replies.specs.Console.{console_room, ground_of_console, transcript};
+ghost use Rattle.console.specs.Calls.{printed_over};
 
 use crate::replying::reply_to;
 use commands::print::text_of;
 use extent_map::map::ExtentMap;
 use lines::LineReader;
+use maps::Map;
 use tables::table::Table;
 
 /// Answers the lines of a text, in turn, and tells how many bytes were printed.
@@ -18,8 +19,8 @@ pub(crate) fn answer_lines<T: Table>(
     input: &[u8],
     output: &mut [u8],
 ) -> usize
-    requires ready { Ready T.Table.valid T.Table.holding T.Table.places map.old }
-    requires fresh { placed_by T.Table.holding map.old ≡ nowhere }
+    requires kept { ⟦<ExtentMap<T> as Map>⟧.room map.old ≡ console_room }
+    requires fresh { ⟦<ExtentMap<T> as Map>⟧.placed map.old ≡ nowhere }
     requires room { ground_of_console (length input.now) (length output.old) ≡ None }
     ensures number { result ≡ length (transcript input.now) }
     ensures output { output.new ≡ printed_over (transcript input.now) output.old }

@@ -1,10 +1,9 @@
 //! What is replied to a line.
 
-ghost use Rattle.std.specs.Prelude.{◌≡◌, Some};
-ghost use Rattle.commands.specs.declared.command.Command.TheVariants.{Assign, Clear, Find, Next};
+ghost use Rattle.std.specs.Prelude.{◌≡◌};
 ghost use Rattle.commands.specs.Commands.{command_in};
-ghost use Rattle.replies.specs.Console.{refusal, reply_to_next};
-ghost use Rattle.console.specs.Calls.{changed_to, found_by, Ready, Replied};
+ghost use Rattle.replies.specs.Console.{console_room, refusal, reply_to_next};
+ghost use Rattle.console.specs.Calls.{changed_to, found_by, Replied};
 
 use commands::command::{Command, command_of};
 use commands::reply::Reply;
@@ -16,8 +15,8 @@ use tables::table::Table;
 
 /// The reply to a line, after which the map is as the line's command leaves it.
 pub(crate) fn reply_to<T: Table>(map: &mut ExtentMap<T>, line: &[u8]) -> Reply
-    ensures kept { Ready T.Table.valid T.Table.holding T.Table.places map.old → Ready T.Table.valid T.Table.holding T.Table.places map.new }
-    ensures step { Ready T.Table.valid T.Table.holding T.Table.places map.old → Replied T.Table.holding map.old (command_in line.now) result map.new }
+    ensures room { ⟦<ExtentMap<T> as Map>⟧.room map.new ≡ ⟦<ExtentMap<T> as Map>⟧.room map.old }
+    ensures step { ⟦<ExtentMap<T> as Map>⟧.room map.old ≡ console_room → Replied (⟦<ExtentMap<T> as Map>⟧.placed map.old) (command_in line.now) result (⟦<ExtentMap<T> as Map>⟧.placed map.new) }
 {
     let Some(command) = command_of(line) else {
         return Reply::Refused(Ground::Line.number());
@@ -28,37 +27,18 @@ pub(crate) fn reply_to<T: Table>(map: &mut ExtentMap<T>, line: &[u8]) -> Reply
             first,
             n,
             board,
-        } => assign(map, file, first, n, board),
-        Command::Clear { file, first, n } => clear(map, file, first, n),
+        } => {
+            let assigned = map.assign(file, first, n, board);
+            change_reply(assigned, map.keys_held())
+        }
+        Command::Clear { file, first, n } => {
+            let cleared = map.clear(file, first, n);
+            change_reply(cleared, map.keys_held())
+        }
         Command::Find { file, block } => found_reply(map.find_counted(file, block)),
-        Command::Next { file, block } => next(map, file, block),
+        Command::Next { file, block } => next_reply(map.next(file, block)),
         Command::Keys => Reply::Held(map.keys_held()),
     }
-}
-
-fn assign<T: Table>(map: &mut ExtentMap<T>, file: u32, first: u32, n: u32, board: u32) -> Reply
-    ensures kept { Ready T.Table.valid T.Table.holding T.Table.places map.old → Ready T.Table.valid T.Table.holding T.Table.places map.new }
-    ensures step { Ready T.Table.valid T.Table.holding T.Table.places map.old → Replied T.Table.holding map.old (Some (Assign file first n board)) result map.new }
-{
-    let assigned = map.assign(file, first, n, board);
-    let keys = map.keys_held();
-    change_reply(assigned, keys)
-}
-
-fn clear<T: Table>(map: &mut ExtentMap<T>, file: u32, first: u32, n: u32) -> Reply
-    ensures kept { Ready T.Table.valid T.Table.holding T.Table.places map.old → Ready T.Table.valid T.Table.holding T.Table.places map.new }
-    ensures step { Ready T.Table.valid T.Table.holding T.Table.places map.old → Replied T.Table.holding map.old (Some (Clear file first n)) result map.new }
-{
-    let cleared = map.clear(file, first, n);
-    let keys = map.keys_held();
-    change_reply(cleared, keys)
-}
-
-fn next<T: Table>(map: &mut ExtentMap<T>, file: u32, block: u32) -> Reply
-    ensures kept { Ready T.Table.valid T.Table.holding T.Table.places map.old → Ready T.Table.valid T.Table.holding T.Table.places map.new }
-    ensures step { Ready T.Table.valid T.Table.holding T.Table.places map.old → Replied T.Table.holding map.old (Some (Next file block)) result map.new }
-{
-    next_reply(map.next(file, block))
 }
 
 /// The reply to a change, after which the map holds so many keys.

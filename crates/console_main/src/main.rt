@@ -3,8 +3,7 @@
 
 #![tactic(auto)]
 
-use anyhow::anyhow;
-use console::{ConsoleError, LONGEST_INPUT, print_replies};
+use console::{LONGEST_INPUT, print_replies};
 use std::io::{Read, Write};
 
 /// Enough for the replies to the longest input.
@@ -18,14 +17,9 @@ fn run(rt: &HostRuntime) -> anyhow::Result<()> {
         .read_to_end(&mut input)?;
     let mut output = vec![in rt.alloc(); 0u8; OUTPUT_BYTES]?;
     let replies = output.as_mut_slice();
-    match print_replies(rt.alloc(), input.as_slice(), replies) {
-        Ok(printed) => {
-            rt.stdout().write_all(&replies[0..printed])?;
-            Ok(())
-        }
-        Err(ConsoleError::NoMemory) => Err(anyhow!("there is not enough memory")),
-        Err(ConsoleError::Refused(_)) => Err(anyhow!("the console refuses the input")),
-    }
+    let printed = print_replies(rt.alloc(), input.as_slice(), replies)?;
+    rt.stdout().write_all(&replies[0..printed])?;
+    Ok(())
 }
 
 fn main(rt: HostRuntime) -> anyhow::Result<()> {

@@ -1,12 +1,11 @@
 -- Replies that are printed one behind the other, at the front of an output.
-use Rattle.std.proofs.Common.{◌≡◌, ℕ, ◌+◌, ◌*◌, ◌<◌, ◌≤◌, List, [], ◌∷◌, ◌++◌, length, take, drop, Some, None, Option, unwrap_or, sym, refl, ap, ◌∙◌, subst, append_assoc, append-nil, arith, length-append, length-drop}
+use Rattle.std.proofs.Common.{◌≡◌, ℕ, ◌+◌, ◌*◌, ◌<◌, ◌≤◌, List, [], ◌∷◌, ◌++◌, length, take, drop, None, unwrap_or, sym, refl, ap, ◌∙◌, subst, append_assoc, append-nil, arith, length-append, length-drop}
 use Rattle.std.proofs.lemmas.Bool.Decides.{nat_tests}
 use Rattle.std.proofs.lemmas.List.{take-append-drop, take_at, drop_at, drop-drop, length-take-le}
 use Rattle.blocks.specs.Blocks.{Placement}
 use Rattle.maps.specs.Steps.{nowhere}
 use Rattle.key_rule.specs.Keyed.{rule_of_keys, OnBoard}
-use Rattle.lines.specs.declared.LineReader.{LineReader}
-use Rattle.lines.specs.Lines.{before, behind, lines, unread}
+use Rattle.lines.specs.Lines.{before, behind, lines}
 use Rattle.lines.proofs.Cuts.{before_le, cut_behind}
 use Rattle.lines.proofs.Steps.{lines_none, lines_more}
 use Rattle.commands.specs.Commands.{command_in, reply_text}

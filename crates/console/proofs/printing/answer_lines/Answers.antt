@@ -1,6 +1,5 @@
 use Rattle.std.proofs.Common.{◌≡◌, ◌≤◌, ◌∙◌, arith, rules}
 use Rattle.lines.specs.Lines.{unread}
-use Rattle.commands.specs.Commands.{reply_text}
 use Rattle.replies.proofs.Printing.{Turn, printing_start, printing_fits, printing_next, printing_number, printing_output}
 use Rattle.lines.proofs.Steps.{unread_some}
 use Rattle.key_rule.specs.Keyed.{placing, rule_of_keys}

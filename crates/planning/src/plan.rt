@@ -76,7 +76,7 @@ impl Draft {
     }
 }
 
-/// Adds the lines of some keys to a text.
+/// Adds the lines of some keys to a text. `Key` is another crate's type, so its line is no `Display` of it.
 fn write_keys(text: &mut String, keys: &[Key]) -> Result<(), AllocError>
     ensures { OnOk result (string_bytes text.new ≡ string_bytes text.old ++ keys_text keys.now) }
 {

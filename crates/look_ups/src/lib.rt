@@ -81,6 +81,7 @@ pub fn board_by(key: Option<Key>, block: u16) -> Option<u32>
 }
 
 /// What a look-up found: the block's board number, or none for a hole, and how many keys it tried.
+// A record beside `Held`: one type for both could not name what was found.
 #[derive(Clone, Copy, PartialEq, Eq, Debug)]
 pub struct Found {
     pub board: Option<u32>,

@@ -1,4 +1,4 @@
-//! The look-up path of a block, as a driver in C asks for it.
+//! The look-up path of a block, as a driver in C asks for it: the numbers 0 and 65,536 stand for none.
 
 #![tactic(auto)]
 
@@ -14,6 +14,7 @@ pub fn path_length(block: u32) -> u32
     let Ok(block) = u16::try_from(block) else {
         return 0;
     };
+    // The ones are counted, which is quicker than to walk the path.
     1 + (block & 4095).count_ones()
 }
 

@@ -15,7 +15,7 @@ use Rattle.ledger.proofs.Search.{found_free}
 use Rattle.maps.specs.Steps.{Outcome, fault_of, assign_step, ground_of_assign, assigned, lowest_mapped_block, here_or, if_room, unless_ground, unless_mapped}
 use Rattle.pool.specs.Enter.{entered, map_answer, settled_answer, settled_taken}
 use Rattle.pool.specs.Pool.{board_size, number_in, taken_also}
-use Rattle.pool.proofs.Tokens.{put_back}
+use Rattle.pool.proofs.Tokens.{Settled, by_answer, taken_and_settled}
 use Rattle.pool.specs.declared.Refusal.{Refusal}
 use Rattle.pool.specs.declared.Taken.{Taken}
 use Rattle.claims.specs.Claims.{Claimed, by_map, claimed, claim_step}
@@ -62,36 +62,16 @@ assign_one rule room pl file block p lf lb lp un =
 
 -- ---- the token
 
--- the place or the map's fault, and what is taken and mapped then
-abbrev pub Settled : Type 0
-Settled = Result ℕ Fault × (ℕ → Bool) × Placement
-
-by_answer : (t : ℕ → Bool) (p : ℕ) (out : Outcome) → Settled
-by_answer t p (Ok _, q) = (Ok p, put t p true, q)
-by_answer t p (Err f, q) = (Err f, t, q)
-
--- what the store makes of it
+-- what the store makes of the place or the map's fault
 abbrev pub lifted : Result ℕ Fault → Result ℕ StoreFault
 lifted (Ok p) = Ok p
 lifted (Err f) = Err (FromMap f)
 
-settling : (t : ℕ → Bool) (q : Placement) (token : Taken) (er : Result ℕ Refusal) → t token.number ≡ false → er ≡ entered token (map_answer er)
-    → ◌≡◌ {A = Settled} (settled_answer er, settled_taken (put t token.number true) er, q) (by_answer t token.number (map_answer er, q))
-unfolding by_answer
-settling t q token (Ok n) f h =
-    let s : n ≡ token.number = cc in
-    ap (λ (k : ℕ). let w : Settled = (Ok k, put t token.number true, q) in w) s
-settling t q token (Err r) f h =
-    let s : r.token ≡ token = cc in
-    let e : put (put t token.number true) r.token.number false ≡ t =
-    ap (λ (k : Taken). put (put t token.number true) k.number false) s ∙ put_back t token.number f in
-    ap (λ (u : ℕ → Bool). let w : Settled = (Err r.fault, u, q) in w) e
+lift : Settled → Placement → Claimed
+lift w q = (lifted w.0, w.1, q)
 
-lift : Settled → Claimed
-lift w = (lifted w.0, w.1, w.2)
-
-lift_answer : (t : ℕ → Bool) (p : ℕ) (out : Outcome) → ◌≡◌ {A = Claimed} (lift (by_answer t p out)) (by_map t p out)
-unfolding by_answer lift
+lift_answer : (t : ℕ → Bool) (p : ℕ) (out : Outcome) → ◌≡◌ {A = Claimed} (lift (by_answer t p out.0) out.1) (by_map t p out)
+unfolding lift
 lift_answer t p (Ok u, q) = refl
 lift_answer t p (Err f, q) = refl
 
@@ -107,17 +87,12 @@ pub entered_claim : (rule : Placement → ℕ) (room size file block from goal :
 unfolding lift
 entered_claim rule room size file block from goal t t1 t2 pl pl₁ q room₁ o token er ans er₁ es eg f is a h s an b =
     let p = token.number in
-    let e : free_from t (board_size size) from ≡ Some token.number = sym f ∙ ap number_in is in
-    let e' : free_from t (board_size size) goal ≡ Some token.number =
-    sym (free_goal t (board_size size) from goal (λ z. eg (omega arith))) ∙ e in
-    let free = found_free t (board_size size) goal token.number e' in
-    let u : t1 ≡ put t token.number true = a ∙ ap (taken_also t) e in
-    let v : t2 ≡ settled_taken (put t token.number true) er = b ∙ ap (λ (w : ℕ → Bool). settled_taken w er) u in
-    let z : ◌≡◌ {A = Settled} (ans, t2, q) (by_answer t token.number (map_answer er, q)) =
-    ap₂ (λ (x : Result ℕ Fault) (y : ℕ → Bool). let w : Settled = (x, y, q) in w) an v ∙ settling t q token er free.1 h in
-    ap lift (z ∙ ap (by_answer t token.number) (s ∙ ap₂ (λ (k : ℕ) (w : Placement). assign_step rule k w file block 1 token.number) er₁ es))
-    ∙ lift_answer t token.number (assign_step rule room pl file block 1 token.number)
-    ∙ sym (ap (claimed rule room t pl file block) e')
+    let z = taken_and_settled t t1 t2 (board_size size) from o token er ans f is a h an b in
+    let e : free_from t (board_size size) goal ≡ Some p = sym (free_goal t (board_size size) from goal (λ l. eg (omega arith))) ∙ z.0 in
+    ap (λ (w : Settled). lift w q) z.1
+    ∙ ap (λ (out : Outcome). lift (by_answer t p out.0) out.1) (s ∙ ap₂ (λ (k : ℕ) (w : Placement). assign_step rule k w file block 1 p) er₁ es)
+    ∙ lift_answer t p (assign_step rule room pl file block 1 p)
+    ∙ sym (ap (claimed rule room t pl file block) e)
 
 -- ---- a block within the numbers that has no place
 

@@ -1,5 +1,5 @@
 -- One block taken and entered, and then another.
-use Rattle.std.proofs.Common.{◌≡◌, ℕ, Bool, true, false, Some, None, Ok, Err, Option, Result, sym, ap, ◌∙◌, ap₂}
+use Rattle.std.proofs.Common.{◌≡◌, ℕ, Bool, true, false, Some, None, Ok, Err, Option, Result, sym, refl, ap, ◌∙◌}
 use Rattle.std.specs.Result.{result_ok}
 use Rattle.faults.specs.declared.Fault.{Fault}
 use Rattle.blocks.specs.Blocks.{Placement}
@@ -9,22 +9,19 @@ use Rattle.ledger.proofs.Search.{found_free}
 use Rattle.maps.specs.Steps.{Outcome, assign_step}
 use Rattle.pool.specs.Enter.{entered, map_answer, settled_answer, settled_taken}
 use Rattle.pool.specs.Pool.{board_size, number_in, taken_also}
-use Rattle.pool.proofs.Tokens.{put_back}
+use Rattle.pool.proofs.Tokens.{Settled, by_answer, taken_and_settled}
 use Rattle.pool.specs.declared.Refusal.{Refusal}
 use Rattle.pool.specs.declared.Taken.{Taken}
 use Rattle.pool_calls.specs.Two.{Told, if_entered, entering, enter_one, if_first, two_entered}
 
--- a token that was entered, or came back and was handed back, by what the map has answered
-settling : (t : ℕ → Bool) (q : Placement) (token : Taken) (er : Result ℕ Refusal) → t token.number ≡ false → er ≡ entered token (map_answer er)
-    → ◌≡◌ {A = Told} (result_ok (settled_answer er), settled_taken (put t token.number true) er, q) (if_entered (map_answer er) token.number t q)
-settling t q token (Ok n) f h =
-    let s : n ≡ token.number = cc in
-    ap (λ (k : ℕ). let w : Told = (Some k, put t token.number true, q) in w) s
-settling t q token (Err r) f h =
-    let s : r.token ≡ token = cc in
-    let e : put (put t token.number true) r.token.number false ≡ t =
-    ap (λ (k : Taken). put (put t token.number true) k.number false) s ∙ put_back t token.number f in
-    ap (λ (u : ℕ → Bool). let w : Told = (None, u, q) in w) e
+-- what is told of the place or the map's fault
+tell : Settled → Placement → Told
+tell w q = (result_ok w.0, w.1, q)
+
+tell_answer : (t : ℕ → Bool) (p : ℕ) (out : Outcome) → ◌≡◌ {A = Told} (tell (by_answer t p out.0) out.1) (if_entered out.0 p t out.1)
+unfolding tell
+tell_answer t p (Ok u, q) = refl
+tell_answer t p (Err f, q) = refl
 
 pub entered_one : (rule : Placement → ℕ) (room size file block : ℕ) (t t1 t2 : ℕ → Bool) (pl q : Placement) (o : Option Taken) (token : Taken) (er : Result ℕ Refusal)
     (ans : Result ℕ Fault) (told : Option ℕ)
@@ -32,15 +29,15 @@ pub entered_one : (rule : Placement → ℕ) (room size file block : ℕ) (t t1 
     → er ≡ entered token (map_answer er) → ◌≡◌ {A = Outcome} (map_answer er, q) (assign_step rule room pl file block 1 token.number)
     → ans ≡ settled_answer er → t2 ≡ settled_taken t1 er → told ≡ result_ok ans
     → ◌≡◌ {A = Told} (told, t2, q) (enter_one rule room size file block t pl)
+unfolding tell
 entered_one rule room size file block t t1 t2 pl q o token er ans told f is a h s an b l =
-    let e : free_from t (board_size size) block ≡ Some token.number = sym f ∙ ap number_in is in
-    let free = (found_free t (board_size size) block token.number e).1 in
-    let u : t1 ≡ put t token.number true = a ∙ ap (taken_also t) e in
-    let v : t2 ≡ settled_taken (put t token.number true) er = b ∙ ap (λ (w : ℕ → Bool). settled_taken w er) u in
-    ap₂ (λ (x : Option ℕ) (y : ℕ → Bool). let w : Told = (x, y, q) in w) (l ∙ ap result_ok an) v
-    ∙ settling t q token er free h
-    ∙ ap (λ (w : Outcome). if_entered w.0 token.number t w.1) s
-    ∙ sym (ap (entering rule room file block t pl) e)
+    let p = token.number in
+    let z = taken_and_settled t t1 t2 (board_size size) block o token er ans f is a h an b in
+    ap (λ (x : Option ℕ). let w : Told = (x, t2, q) in w) l
+    ∙ ap (λ (w : Settled). tell w q) z.1
+    ∙ ap (λ (out : Outcome). tell (by_answer t p out.0) out.1) s
+    ∙ tell_answer t p (assign_step rule room pl file block 1 p)
+    ∙ sym (ap (entering rule room file block t pl) z.0)
 
 -- the second is not tried where the first has no place,
 pub stops : (rule : Placement → ℕ) (room size file block other : ℕ) (t t2 : ℕ → Bool) (pl q : Placement) (told : Option ℕ)

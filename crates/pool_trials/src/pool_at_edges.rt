@@ -3,19 +3,11 @@ use pool::Pool;
 
 /// The first free number from the goal on, looked for one by one.
 fn plain_search(taken: &[bool; 4096], goal: u32, size: u32) -> Option<u32> {
-    let size = if size < 4096 { size } else { 4096 };
+    let size = size.min(4096);
     let start = if goal < size { goal } else { 0 };
-    for number in start..size {
-        if !taken[number as usize] {
-            return Some(number);
-        }
-    }
-    for number in 0..start {
-        if !taken[number as usize] {
-            return Some(number);
-        }
-    }
-    None
+    (start..size)
+        .chain(0..start)
+        .find(|number| taken.get(*number as usize) == Some(&false))
 }
 
 /// Takes up to `left` blocks, each where the plain search finds one, and hands them back, the last first.
@@ -25,26 +17,24 @@ fn fill(pool: &mut Pool, taken: &mut [bool; 4096], goal: u32, size: u32, left: u
         return true;
     }
     let expected = plain_search(taken, goal, size);
-    match pool.take(goal, size) {
-        None => expected == None,
-        Some(token) => {
-            let number = token.number();
-            let mut same = expected == Some(number);
-            if number < 4096 {
-                taken[number as usize] = true;
-            }
-            if left % 7 == 3 && number < 4096 {
-                pool.release(number / 2);
-                taken[(number / 2) as usize] = false;
-            }
-            same &= fill(pool, taken, goal, size, left - 1);
-            pool.hand_back(token);
-            if number < 4096 {
-                taken[number as usize] = false;
-            }
-            same
-        }
+    let Some(token) = pool.take(goal, size) else {
+        return expected == None;
+    };
+    let number = token.number();
+    let mut same = expected == Some(number);
+    if number < 4096 {
+        taken[number as usize] = true;
     }
+    if left % 7 == 3 && number < 4096 {
+        pool.release(number / 2);
+        taken[(number / 2) as usize] = false;
+    }
+    same &= fill(pool, taken, goal, size, left - 1);
+    pool.hand_back(token);
+    if number < 4096 {
+        taken[number as usize] = false;
+    }
+    same
 }
 
 /// Fills a new pool twice from one goal: the second time all must be as it was at the start.
@@ -82,20 +72,17 @@ fn full_boards(rt: HostRuntime) {
     assert!(rt; agrees(64, 5000));
 }
 
-/// Takes a block, if one is free, and tells its number; the pool keeps it until the second is taken too.
+/// The numbers of two blocks, as far as there are free ones: the pool keeps the first until the second is taken too.
 fn two_from(pool: &mut Pool, goal: u32, size: u32) -> (Option<u32>, Option<u32>) {
     let Some(first) = pool.take(goal, size) else {
         return (None, None);
     };
     let number = first.number();
-    let second = match pool.take(goal, size) {
-        None => None,
-        Some(token) => {
-            let number = token.number();
-            pool.hand_back(token);
-            Some(number)
-        }
-    };
+    let second = pool.take(goal, size).map(|token| {
+        let number = token.number();
+        pool.hand_back(token);
+        number
+    });
     pool.hand_back(first);
     (Some(number), second)
 }
@@ -127,7 +114,7 @@ fn one_given_back_at_an_edge(rt: HostRuntime) {
     for edge in [0, 63, 64, 4095, 4096] {
         let mut leaving = BlockSet::new();
         leaving.insert(edge);
-        let expected = if edge < 4096 { Some(edge) } else { None };
+        let expected = (edge < 4096).then_some(edge);
         assert_eq!(rt;
             free_after(&mut Pool::new(), &leaving, 4096, 4096),
             expected

@@ -9,14 +9,8 @@ fn has(set: &BlockSet, number: u32) -> bool {
 }
 
 /// How many numbers are in.
-fn count(set: &BlockSet) -> u32 {
-    let mut found: u32 = 0;
-    for number in 0..4100 {
-        if has(set, number) {
-            found = found.saturating_add(1);
-        }
-    }
-    found
+fn count(set: &BlockSet) -> usize {
+    (0..4100).filter(|number| has(set, *number)).count()
 }
 
 /// The set of all.
@@ -35,7 +29,7 @@ fn one_number_in(rt: HostRuntime) {
         assert_eq!(rt; count(&set), 0);
         set.insert(edge);
         assert_eq!(rt; has(&set, edge), edge < 4096);
-        assert_eq!(rt; count(&set), if edge < 4096 { 1 } else { 0 });
+        assert_eq!(rt; count(&set), (edge < 4096) as usize);
         set.remove(edge);
         assert_eq!(rt; count(&set), 0);
     }
@@ -47,7 +41,7 @@ fn one_number_out(rt: HostRuntime) {
         let mut set = all();
         assert_eq!(rt; set.first_absent(0, u32::MAX), None);
         set.remove(edge);
-        let expected = if edge < 4096 { Some(edge) } else { None };
+        let expected = (edge < 4096).then_some(edge);
         assert_eq!(rt; set.first_absent(0, u32::MAX), expected);
         assert_eq!(rt; set.first_absent(edge, u32::MAX), expected);
         assert_eq!(rt; set.first_absent(0, edge), None);

@@ -1,11 +1,9 @@
 -- One block taken and entered, and then another.
-use Rattle.std.proofs.Common.{◌≡◌, ℕ, Bool, true, false, Some, None, Ok, Err, Option, Result, sym, refl, ap, ◌∙◌}
+use Rattle.std.proofs.Common.{◌≡◌, ℕ, Bool, Some, None, Ok, Err, Option, Result, sym, refl, ap, ◌∙◌}
 use Rattle.std.specs.Result.{result_ok}
 use Rattle.faults.specs.declared.Fault.{Fault}
 use Rattle.blocks.specs.Blocks.{Placement}
 use Rattle.ledger.specs.Free.{free_from}
-use Rattle.ledger.specs.Store.{put}
-use Rattle.ledger.proofs.Search.{found_free}
 use Rattle.maps.specs.Steps.{Outcome, assign_step}
 use Rattle.pool.specs.Enter.{entered, map_answer, settled_answer, settled_taken}
 use Rattle.pool.specs.Pool.{board_size, number_in, taken_also}

@@ -1,7 +1,8 @@
 -- How what is remembered stays true.
-use Rattle.std.proofs.Common.{◌≡◌, ℕ, zero, suc, Bool, true, false, cond, ◌&&◌, eqb, ◌⊎◌, List, [], ◌∷◌, map, set, is_some, Some, None, Option, sym, refl, ap, ◌∙◌, subst, inl, inr, arith}
-use Rattle.std.specs.Option.{option_or}
-use Rattle.std.proofs.lemmas.Bool.{true≢false, false≢true, cases_Bool, cases_eq, and_parts, and_from, and_left, and_right, eqb-true, eq-eqb, ne_eqb, cond-true, cond-false}
+use Rattle.std.proofs.Common.{◌≡◌, ℕ, zero, suc, ◌<◌, Bool, true, false, cond, ◌&&◌, eqb, ◌⊎◌, List, [], ◌∷◌, map, set, length, is_some, Some, None, Option, Bor, sym, refl, ap, ◌∙◌, subst, inl, inr, arith}
+use Rattle.std.specs.Option.{option_or, MatchOption}
+use Rattle.std.specs.List.{AllWithin, HoldsAt}
+use Rattle.std.proofs.lemmas.Bool.{false≢true, cases_Bool, and_parts, eqb-true, cond-true, cond-false}
 use Rattle.blocks.specs.Blocks.{Placement, inside}
 use Rattle.cached_map.specs.declared.memory.Line.{Line}
 use Rattle.cached_map.specs.Remembering.{says, True, struck, recalled, AllTrue}
@@ -11,15 +12,13 @@ none_some v e = let z : ◌≡◌ {A = ℕ} 0 1 = cc in omega arith
 
 -- ---- one line
 
-pub says_here : (file block : ℕ) (l : Line) → l.file ≡ file → l.block ≡ block → says file block l ≡ l.board
-says_here file block l p q = cond-true (eqb l.file file && eqb l.block block) l.board None
-    (and_from (eqb l.file file) (eqb l.block block) (eq-eqb l.file file p) (eq-eqb l.block block q))
-
-pub says_other : (file block : ℕ) (l : Line) → (l.file ≡ file → l.block ≡ block → ⊥) → says file block l ≡ None
-says_other file block l n = cond-false (eqb l.file file && eqb l.block block) l.board None (elim (cases_eq l.file file) [
-  | inl p ↦ and_right (eqb l.file file) (eqb l.block block) (ne_eqb l.block block (λ q. n p q))
-  | inr p ↦ and_left (eqb l.file file) (eqb l.block block) (ne_eqb l.file file p)
-])
+-- What a line says that says something is its board number.
+says_board : (file block : ℕ) (l : Line) → is_some (says file block l) ≡ true → l.board ≡ says file block l
+says_board file block l e = at (eqb l.file file && eqb l.block block) e
+  where
+    at : (v : Bool) → is_some (cond v l.board None) ≡ true → l.board ≡ cond v l.board None
+    at true e = refl
+    at false e = absurd (false≢true e)
 
 true_says : (p : Placement) (l : Line) (file block v : ℕ) → True p l → says file block l ≡ Some v → p file block ≡ Some v
 true_says p l file block v t e = at (cases_Bool (eqb l.file file && eqb l.block block))
@@ -44,23 +43,45 @@ true_struck p q file first n l more t = at (eqb l.file file && inside first n l.
 
 -- ---- all lines
 
--- A line that says nothing is passed over,
-pub recalled_past : (file block : ℕ) (l : Line) (ls : List Line) → says file block l ≡ None → recalled (l ∷ ls) file block ≡ recalled ls file block
-recalled_past file block l ls e = ap (λ (o : Option ℕ). option_or o (recalled ls file block)) e
-
 or_some : (a b : Option ℕ) → is_some a ≡ true → option_or a b ≡ a
 or_some None b e = absurd (false≢true e)
 or_some (Some x) b e = refl
 
--- and one that says something ends the search.
-pub recalled_here : (file block : ℕ) (l : Line) (ls : List Line) → l.file ≡ file → l.block ≡ block → is_some l.board ≡ true
-    → recalled (l ∷ ls) file block ≡ l.board
-recalled_here file block l ls p q e =
-    or_some (says file block l) (recalled ls file block) (ap is_some (says_here file block l p q) ∙ e) ∙ says_here file block l p q
+or_none : (a b : Option ℕ) → a ≡ None → option_or a b ≡ b
+or_none a b e = ap (λ (o : Option ℕ). option_or o b) e
 
-pub none_of : (o : Option ℕ) → is_some o ≡ false → o ≡ None
-none_of None e = refl
-none_of (Some x) e = absurd (true≢false e)
+module _ (file block : ℕ) where
+  abbrev Quiet : Line → Type 0
+  Quiet l = says file block l ≡ None
+
+  none_recalled : (ls : List Line) → AllWithin Quiet ls 0 (length ls) → None ≡ recalled ls file block
+  none_recalled [] q = refl
+  none_recalled (l ∷ ls) q =
+      none_recalled ls (λ k d a b. q (suc k) d (omega arith) (omega arith))
+      ∙ sym (or_none (says file block l) (recalled ls file block) (q 0 l (omega arith) (omega arith)))
+
+  line_recalled : (ls : List Line) (x : Line) (i : ℕ) → is_some (says file block x) ≡ true → i < length ls → HoldsAt (λ y. y ≡ x) ls i
+      → AllWithin Quiet ls 0 i → x.board ≡ recalled ls file block
+  line_recalled [] x i s l h q = absurd (omega arith)
+  line_recalled (y ∷ ls) x zero s l h q =
+      let e : x ≡ y = sym (h y) in
+      says_board file block x s ∙ sym (or_some (says file block x) (recalled ls file block) s)
+      ∙ ap (λ (z : Line). recalled (z ∷ ls) file block) e
+  line_recalled (y ∷ ls) x (suc i) s l h q =
+      line_recalled ls x i s (omega arith) h (λ k d a b. q (suc k) d (omega arith) (omega arith))
+      ∙ sym (or_none (says file block y) (recalled ls file block) (q 0 y (omega arith) (omega arith)))
+
+  abbrev pub board_of : Option (Bor Line) → Option ℕ
+  board_of None = None
+  board_of (Some x) = x.now.board
+
+  -- The first line that says something of the block is recalled.
+  pub first_recalled : (ls : List Line) (o : Option (Bor Line))
+      → MatchOption o (AllWithin Quiet ls 0 (length ls))
+      (λ x. (is_some (says file block x.now) ≡ true) × (i : ℕ) × (i < length ls) × HoldsAt (λ y. y ≡ x.now) ls i × AllWithin Quiet ls 0 i)
+      → board_of o ≡ recalled ls file block
+  first_recalled ls None q = none_recalled ls q
+  first_recalled ls (Some x) q = line_recalled ls x.now q.1 q.0 q.2 q.3 q.4
 
 or_cases : (a b : Option ℕ) (v : ℕ) → option_or a b ≡ Some v → (a ≡ Some v) ⊎ (b ≡ Some v)
 or_cases None b v e = inr e

@@ -1,11 +1,12 @@
 -- What is remembered of a map, and when that is true.
 use Rattle.std.specs.Prelude.{◌≡◌, ℕ, ◌+◌, ◌%◌, cond, ◌&&◌, List, [], ◌∷◌, map, replicate, is_some, Some, None, Ok, Err, Option, Result, ◌==◌, slice_set}
 use Rattle.std.specs.Option.{option_or}
+use Rattle.std.specs.Coded.{×_prop, Unit-prop}
+use Rattle.std.proofs.Props.{props}
 use Rattle.faults.specs.declared.Fault.{Fault}
 use Rattle.blocks.specs.Blocks.{Placement, inside}
 use Rattle.cached_map.specs.declared.memory.Line.{Line}
 use Rattle.cached_map.specs.declared.memory.Memory.{Memory}
-use Rattle.cached_map.specs.declared.cached.CachedMap.{CachedMap}
 
 -- ---- one line
 
@@ -38,6 +39,14 @@ abbrev pub AllTrue : Placement → List Line → Type 0
 AllTrue p [] = Unit {0}
 AllTrue p (l ∷ ls) = True p l × AllTrue p ls
 
+-- That has one proof at most.
+pub True-prop : (p : Placement) (l : Line) → IsProp (True p l)
+True-prop p l = hlevel props
+
+pub AllTrue-prop : (p : Placement) (ls : List Line) → IsProp (AllTrue p ls)
+AllTrue-prop p [] = Unit-prop
+AllTrue-prop p (l ∷ ls) = ×_prop (True-prop p l) (AllTrue-prop p ls)
+
 -- ---- the memory
 
 -- nothing is remembered
@@ -54,12 +63,6 @@ remembered m file block board = record {
 -- the n blocks of a file from `first` on are not remembered, all others are as they were
 abbrev pub without : Memory → ℕ → ℕ → ℕ → Memory
 without m file first n = record { lines = map (struck file first n) m.lines; turn = m.turn }
-
--- ---- a map with a memory
-
--- The map below is valid, and all that is remembered is true of what is placed in it.
-abbrev pub Sound : {M : Type 0} → (M → Type 0) → (M → Placement) → CachedMap M → Type 0
-Sound valid placed s = valid s.map × AllTrue (placed s.map) s.memory.lines
 
 -- ---- what the calls of a map leave in memory
 

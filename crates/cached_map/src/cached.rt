@@ -2,7 +2,7 @@
 
 ghost use Rattle.std.specs.Prelude.{◌≡◌, true, is_some};
 ghost use Rattle.maps.specs.Steps.{nowhere, Outcome, find_answer, next_answer, assign_step, clear_step, forget_step};
-ghost use Rattle.cached_map.specs.Remembering.{Sound, blank_memory, recalled, after_find, after_taking};
+ghost use Rattle.cached_map.specs.Remembering.{AllTrue, AllTrue-prop, blank_memory, recalled, after_find, after_taking};
 ghost use Rattle.std.proofs.Common.{rules};
 
 use crate::memory::Memory;
@@ -12,9 +12,10 @@ use maps::Map;
 /// A map with the last eight translations that a look-up in it found.
 /// What is remembered is answered with no look-up below.
 #[derive(Drop)]
-pub struct CachedMap<M> {
+pub struct CachedMap<M: Map> {
     map: M,
     memory: Memory,
+    ghost sound: { AllTrue (M.Map.placed map) memory.lines } by { AllTrue-prop (M.Map.placed map) memory.lines },
 }
 
 impl<M: Map> CachedMap<M> {
@@ -22,7 +23,6 @@ impl<M: Map> CachedMap<M> {
     pub fn new(map: M) -> CachedMap<M>
         ensures map { result.map ≡ map }
         ensures memory { result.memory ≡ blank_memory }
-        ensures valid { M.Map.valid map → Sound M.Map.valid M.Map.placed result }
     {
         CachedMap {
             map,
@@ -40,8 +40,6 @@ impl<M: Map> CachedMap<M> {
 }
 
 impl<M: Map> Map for CachedMap<M> {
-    ghost valid = { Sound M.Map.valid M.Map.placed };
-
     ghost placed = { λ s. M.Map.placed s.map };
 
     ghost room = { λ s. M.Map.room s.map };
@@ -54,15 +52,14 @@ impl<M: Map> Map for CachedMap<M> {
 
     ghost within = { Prim.search rules };
 
-    ghost on_board = { λ s v f b p e. M.Map.on_board s.map v.0 f b p e };
+    ghost on_board = { λ s. M.Map.on_board s.map };
 
     ghost roomy = { Prim.search rules };
 
     fn find(&mut self, file: u32, block: u32) -> Result<Option<u32>, Fault>
-        ensures kept { Sound M.Map.valid M.Map.placed self.old → Sound M.Map.valid M.Map.placed self.new }
         ensures room { M.Map.room self.new.map ≡ M.Map.room self.old.map }
-        ensures answer { Sound M.Map.valid M.Map.placed self.old → result ≡ find_answer (M.Map.placed self.old.map) file block }
-        ensures same { Sound M.Map.valid M.Map.placed self.old → M.Map.placed self.new.map ≡ M.Map.placed self.old.map }
+        ensures answer { result ≡ find_answer (M.Map.placed self.old.map) file block }
+        ensures same { M.Map.placed self.new.map ≡ M.Map.placed self.old.map }
         ensures memory { self.new.memory ≡ after_find self.old.memory file block result }
         ensures hit { is_some (recalled self.old.memory.lines file block) ≡ true → self.new ≡ self.old }
     {
@@ -77,10 +74,9 @@ impl<M: Map> Map for CachedMap<M> {
     }
 
     fn next(&mut self, file: u32, block: u32) -> Result<Option<u32>, Fault>
-        ensures kept { Sound M.Map.valid M.Map.placed self.old → Sound M.Map.valid M.Map.placed self.new }
         ensures room { M.Map.room self.new.map ≡ M.Map.room self.old.map }
-        ensures answer { Sound M.Map.valid M.Map.placed self.old → result ≡ next_answer (M.Map.placed self.old.map) file block }
-        ensures same { Sound M.Map.valid M.Map.placed self.old → M.Map.placed self.new.map ≡ M.Map.placed self.old.map }
+        ensures answer { result ≡ next_answer (M.Map.placed self.old.map) file block }
+        ensures same { M.Map.placed self.new.map ≡ M.Map.placed self.old.map }
         ensures memory { self.new.memory ≡ self.old.memory }
     {
         self.map.next(file, block)
@@ -88,18 +84,16 @@ impl<M: Map> Map for CachedMap<M> {
 
     /// What was mapped stays where it is, so all that is remembered stays true.
     fn assign(&mut self, file: u32, first: u32, n: u32, board: u32) -> Result<(), Fault>
-        ensures kept { Sound M.Map.valid M.Map.placed self.old → Sound M.Map.valid M.Map.placed self.new }
         ensures room { M.Map.room self.new.map ≡ M.Map.room self.old.map }
-        ensures step { Sound M.Map.valid M.Map.placed self.old → ◌≡◌ {A = Outcome} (result, M.Map.placed self.new.map) (assign_step M.Map.rule (M.Map.room self.old.map) (M.Map.placed self.old.map) file first n board) }
+        ensures step { ◌≡◌ {A = Outcome} (result, M.Map.placed self.new.map) (assign_step M.Map.rule (M.Map.room self.old.map) (M.Map.placed self.old.map) file first n board) }
         ensures memory { self.new.memory ≡ self.old.memory }
     {
         self.map.assign(file, first, n, board)
     }
 
     fn clear(&mut self, file: u32, first: u32, n: u32) -> Result<(), Fault>
-        ensures kept { Sound M.Map.valid M.Map.placed self.old → Sound M.Map.valid M.Map.placed self.new }
         ensures room { M.Map.room self.new.map ≡ M.Map.room self.old.map }
-        ensures step { Sound M.Map.valid M.Map.placed self.old → ◌≡◌ {A = Outcome} (result, M.Map.placed self.new.map) (clear_step M.Map.rule (M.Map.room self.old.map) (M.Map.placed self.old.map) file first n) }
+        ensures step { ◌≡◌ {A = Outcome} (result, M.Map.placed self.new.map) (clear_step M.Map.rule (M.Map.room self.old.map) (M.Map.placed self.old.map) file first n) }
         ensures memory { self.new.memory ≡ after_taking self.old.memory file first n result }
     {
         self.map.clear(file, first, n)?;
@@ -108,9 +102,8 @@ impl<M: Map> Map for CachedMap<M> {
     }
 
     fn forget(&mut self, file: u32) -> Result<(), Fault>
-        ensures kept { Sound M.Map.valid M.Map.placed self.old → Sound M.Map.valid M.Map.placed self.new }
         ensures room { M.Map.room self.new.map ≡ M.Map.room self.old.map }
-        ensures step { Sound M.Map.valid M.Map.placed self.old → ◌≡◌ {A = Outcome} (result, M.Map.placed self.new.map) (forget_step (M.Map.placed self.old.map) file) }
+        ensures step { ◌≡◌ {A = Outcome} (result, M.Map.placed self.new.map) (forget_step (M.Map.placed self.old.map) file) }
         ensures memory { self.new.memory ≡ after_taking self.old.memory file 0 65536 result }
     {
         self.map.forget(file)?;
@@ -119,9 +112,8 @@ impl<M: Map> Map for CachedMap<M> {
     }
 
     fn forget_all(&mut self)
-        ensures kept { Sound M.Map.valid M.Map.placed self.old → Sound M.Map.valid M.Map.placed self.new }
         ensures room { M.Map.room self.new.map ≡ M.Map.room self.old.map }
-        ensures after { Sound M.Map.valid M.Map.placed self.old → M.Map.placed self.new.map ≡ nowhere }
+        ensures after { M.Map.placed self.new.map ≡ nowhere }
         ensures memory { self.new.memory ≡ blank_memory }
     {
         self.map.forget_all();

@@ -1,7 +1,10 @@
 //! Translations that are remembered: the eight that were learned last.
 
-ghost use Rattle.std.specs.Prelude.{◌≡◌, map};
-ghost use Rattle.cached_map.specs.Remembering.{struck, blank_memory, recalled, remembered, without};
+ghost use Rattle.std.specs.Prelude.{◌≡◌, is_some};
+ghost use Rattle.cached_map.specs.Remembering.{says, struck, blank_memory, recalled, remembered, without};
+
+/// So many lines are kept.
+const LINES: usize = 8;
 
 /// The board number of a block; a line without one says nothing.
 #[derive(Clone, Copy)]
@@ -12,6 +15,13 @@ pub struct Line {
 }
 
 impl Line {
+    /// Whether the line has a board number for a block.
+    fn tells(self, file: u32, block: u32) -> bool
+        ensures { result ≡ is_some (says file block self) }
+    {
+        self.file == file && self.block == block && self.board.is_some()
+    }
+
     /// The line, which says nothing any more if its block is one of the n of the file from `first` on.
     fn without(mut self, file: u32, first: u32, n: u32) -> Line
         ensures { result ≡ struck file first n self }
@@ -23,31 +33,10 @@ impl Line {
     }
 }
 
-/// The board number that the lines have for a block.
-fn look(lines: &[Line], file: u32, block: u32) -> Option<u32>
-    ensures { result ≡ recalled lines.now file block }
-{
-    for line in lines {
-        if line.file == file && line.block == block && line.board.is_some() {
-            return line.board;
-        }
-    }
-    None
-}
-
-/// Strikes out the lines of the n blocks of a file from `first` on.
-fn strike(lines: &mut [Line], file: u32, first: u32, n: u32)
-    ensures { lines.new ≡ map (struck file first n) lines.old }
-{
-    for line in lines.iter_mut() {
-        *line = line.without(file, first, n);
-    }
-}
-
 /// Eight lines that are written in turn, round and round, so that the next to be replaced is the oldest.
 #[derive(Clone, Copy)]
 pub struct Memory {
-    lines: [Line; 8],
+    lines: [Line; LINES],
     turn: usize,
 }
 
@@ -61,7 +50,7 @@ impl Memory {
                 file: 0,
                 block: 0,
                 board: None,
-            }; 8],
+            }; LINES],
             turn: 0,
         }
     }
@@ -70,14 +59,15 @@ impl Memory {
     pub fn recall(&self, file: u32, block: u32) -> Option<u32>
         ensures { result ≡ recalled self.now.lines file block }
     {
-        look(&self.lines, file, block)
+        let line = self.lines.iter().find(|line| line.tells(file, block))?;
+        line.board
     }
 
     /// Remembers a block's board number in place of the oldest line.
     pub fn remember(&mut self, file: u32, block: u32, board: u32)
         ensures { self.new ≡ remembered self.old file block board }
     {
-        let place = self.turn % 8;
+        let place = self.turn % LINES;
         self.lines[place] = Line {
             file,
             block,
@@ -90,6 +80,8 @@ impl Memory {
     pub fn forget(&mut self, file: u32, first: u32, n: u32)
         ensures { self.new ≡ without self.old file first n }
     {
-        strike(&mut self.lines, file, first, n);
+        for line in self.lines.iter_mut() {
+            *line = line.without(file, first, n);
+        }
     }
 }

@@ -5,19 +5,13 @@ use Rattle.cached_map.proofs.Truth.{all_struck}
 use Rattle.cached_map.proofs.Keeps.{clear_keeps}
 use Rattle.cached_map.proofs.cached.CachedMapMap.clear.Goals as goal
 
-pub returns : goal.returns
-returns g c =
-    let e = c.in_ok-clear.ensures in
-    let p = g.M.Map.placed c.args.self.now.map in
+pub invariant_of-self-2 : goal.invariant_of-self-2
+invariant_of-self-2 g c =
+    let self = c.args.self.now in
+    let p = g.M.Map.placed self.map in
     let q = g.M.Map.placed c.clear.new.self in
     record {
-      kept = λ v. (
-        e.kept v.0,
-        subst (λ (m : Memory). AllTrue q m.lines) (sym c.forget.ensures)
-            (all_struck p q c.args.file c.args.first c.args.n c.args.self.now.memory.lines
-            (clear_keeps p q (Ok tt) g.M.Map.rule (g.M.Map.room c.args.self.now.map) c.args.file c.args.first c.args.n (e.step v.0)) v.1),
-      );
-      room = e.room;
-      step = λ v. e.step v.0;
-      memory = c.forget.ensures;
+      sound = subst (λ (m : Memory). AllTrue q m.lines) (sym c.forget.ensures)
+          (all_struck p q c.args.file c.args.first c.args.n self.memory.lines
+          (clear_keeps p q (Ok tt) g.M.Map.rule (g.M.Map.room self.map) c.args.file c.args.first c.args.n c.in_ok-clear.ensures.step) self.sound);
     }

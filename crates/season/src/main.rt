@@ -3,7 +3,7 @@
 #![tactic(auto)]
 
 use blocks::BLOCK_BYTES;
-use carrying::{bytes_differing, carry_all};
+use carrying::{Summary, bytes_differing, carry_all};
 use flat::{FlatStore, Picture};
 use lowers::Reading;
 use std::io::Read;
@@ -24,13 +24,11 @@ fn main(rt: HostRuntime) -> anyhow::Result<()> {
     let mut store = FlatStore::new(memory.as_mut_slice(), WIDTH);
     let pictured = picture.files();
     let files = store.files();
-    let summary = carry_all(&mut picture, &mut store);
+    let Summary { carried, refused } = carry_all(&mut picture, &mut store);
 
-    let carried = summary.carried;
-    let refused = summary.refused;
     let whole = pictured as usize * WIDTH as usize * BLOCK_BYTES;
     let reach = season.len().min(whole);
-    let differing = bytes_differing(&season.as_slice()[0..reach], memory.as_slice());
+    let differing = bytes_differing(&season.as_slice()[..reach], memory.as_slice());
     println!(rt; "picture: {pictured} files of {WIDTH} blocks")?;
     println!(rt; "store: {files} files of {WIDTH} blocks")?;
     println!(rt; "blocks carried: {carried}")?;

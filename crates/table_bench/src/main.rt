@@ -5,6 +5,7 @@
 
 use blocks::Entry;
 use probing::table::ProbingTable;
+use std::ops::Range;
 use std::time::Instant;
 use tables::spread::{Level, Mixing, Spread};
 use tables::table::Table;
@@ -28,56 +29,52 @@ fn scatter(k: u32) -> u32 {
     y ^ (y >> 16)
 }
 
-/// The file of the k-th key, at random.
-fn file_of(k: u32) -> u16 {
-    (scatter(k) / 65536) as u16
+/// The file and the block of the k-th key, at random, the block even.
+fn key(k: u32) -> (u16, u16) {
+    let x = scatter(k);
+    ((x / 65536) as u16, (x % 65536 / 2 * 2) as u16)
 }
 
-/// The block of the k-th key, at random and even.
-fn block_of(k: u32) -> u16 {
-    (scatter(k) % 65536 / 2 * 2) as u16
+/// The file and the block of the k-th key that is never put.
+fn absent_key(k: u32) -> (u16, u16) {
+    let (file, block) = key(k);
+    (file, block | 1)
 }
 
-/// Drops the oldest key and puts the next, so many times from the k-th on, and tells which is next.
-fn churn<T: Table>(table: &mut T, first: u32, times: u32) -> u32 {
-    let mut k = first;
-    for _ in 0..times {
-        let old = k.wrapping_sub(HALF);
-        let _ = table.remove(file_of(old), block_of(old));
-        let _ = table.store(
-            file_of(k),
-            block_of(k),
-            Entry {
-                length: 1,
-                board: 0,
-            },
-        );
-        k = k.wrapping_add(1);
+/// Puts these keys in turn, and before each drops the oldest.
+fn churn<T: Table>(table: &mut T, keys: Range<u32>) {
+    for k in keys {
+        let (file, block) = key(k.wrapping_sub(HALF));
+        let _ = table.remove(file, block);
+        let (file, block) = key(k);
+        let entry = Entry {
+            length: 1,
+            board: 0,
+        };
+        let _ = table.store(file, block, entry);
     }
-    k
 }
 
 /// How many of the look-ups of absent keys find an entry all the same.
-fn misses<T: Table>(table: &T) -> u32 {
-    let mut found = 0u32;
-    for i in 0..MISSES {
-        if table.find(file_of(i), block_of(i) | 1).is_some() {
-            found = found.saturating_add(1);
-        }
-    }
-    found
+fn misses<T: Table>(table: &T) -> usize {
+    (0..MISSES)
+        .filter(|k| {
+            let (file, block) = absent_key(*k);
+            table.find(file, block).is_some()
+        })
+        .count()
 }
 
 /// The rows that look-ups of absent keys look at: all together, and the most for one.
 fn rows<S: Spread>(table: &ProbingTable<S>) -> (usize, usize) {
-    let mut sum = 0usize;
-    let mut most = 0usize;
-    for i in 0..MISSES {
-        let n = table.rows_looked_at(file_of(i), block_of(i) | 1);
-        sum = sum.saturating_add(n);
-        most = most.max(n);
-    }
-    (sum, most)
+    (0..MISSES)
+        .map(|k| {
+            let (file, block) = absent_key(k);
+            table.rows_looked_at(file, block)
+        })
+        .fold((0usize, 0usize), |(sum, most), n| {
+            (sum.saturating_add(n), most.max(n))
+        })
 }
 
 fn report<S: Spread>(
@@ -105,20 +102,16 @@ fn report<S: Spread>(
 
 fn bench<S: Spread + Drop>(rt: &HostRuntime, name: &str, spread: S) -> anyhow::Result<()> {
     let mut table = ProbingTable::new(rt.alloc(), PLACES, spread)?;
-    let k = churn(&mut table, HALF, HALF);
+    churn(&mut table, HALF..2 * HALF);
     report(rt, name, "new", &table)?;
     let start = Instant::now(rt)?;
-    let _ = churn(&mut table, k, CHURN);
+    churn(&mut table, 2 * HALF..2 * HALF + CHURN);
     let spent = start.elapsed(rt)?.as_micros();
     eprintln!(rt; "{name}: {CHURN} puts and as many drops took {spent} microseconds")?;
     report(rt, name, "after the churn", &table)
 }
 
 fn main(rt: HostRuntime) -> anyhow::Result<()> {
-    run(&rt)
-}
-
-fn run(rt: &HostRuntime) -> anyhow::Result<()> {
-    bench(rt, "mixing", Mixing)?;
-    bench(rt, "level", Level)
+    bench(&rt, "mixing", Mixing)?;
+    bench(&rt, "level", Level)
 }

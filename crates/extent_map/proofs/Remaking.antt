@@ -12,7 +12,9 @@ use Rattle.key_rule.specs.Mends.{Mending, Leftward, Rightward, LeftEdge, RightEd
 use Rattle.key_rule.proofs.Mends.{placing_keyed}
 use Rattle.key_rule.proofs.Changes.{assign_mending, clear_mending, held_assigned, held_cleared, after_extent}
 use Rattle.key_rule.proofs.Outcomes.{granted_by, unmapped_by}
+use Rattle.maps.specs.declared.extent.Extent.{Extent}
 use Rattle.extent_map.specs.Calls.{Remade}
+use Rattle.extent_map.proofs.Numbers.{Granted}
 
 -- a ground told as the map's refusal
 abbrev pub told : ℕ → ℕ → Result (Unit {0}) Ground → Result (Unit {0}) Fault
@@ -35,37 +37,37 @@ module _ (h g : Holding) (room : ℕ) (q : Placement) (file first : ℕ) where
       let z : ◌≡◌ {A = Outcome} (r, placing g) (Err (fault_of TooManyKeys file first), placing h) = cc in
       z ∙ sym (cond-true (ltb room (rule_of_keys q)) _ _ (lt-ltb room (rule_of_keys q) o))
 
-module _ (h g : Holding) (v : Held h) (room file first n f : ℕ) (same : f ≡ file) (known : f < 65536) (some : 0 < n) (top : first + n ≤ 65536)
-    (done : Result (Unit {0}) Ground) where
-  module _ (board l p y : ℕ) (fits : board + n ≤ 4096) (free : None ≡ lowest_mapped_block (placing h f) first n)
+-- by the extent that the call names
+module _ (h g : Holding) (v : Held h) (room file first n : ℕ) (e : Extent) (done : Result (Unit {0}) Ground) where
+  module _ (board l p y : ℕ) (a : Granted file first n (ground_of_assign file first n board) e) (fits : board + n ≤ 4096)
+      (free : None ≡ lowest_mapped_block (placing h e.file) first n)
       (lo : l ≤ first) (hi : first + n ≤ y) (level : p + first ≡ board + l)
-      (left : Leftward (placing h f) first l p) (right : Rightward (placing h f) (first + n) (board + n) y)
-      (made : (q : Placement) → Mending (placing h) q f l y p y 0 y → Remade h room q done g) where
-    assign_made : Remade h room (assigned (placing h) f first n board) done g
-    assign_made = made _ (assign_mending (placing h) f first n board l p y known some lo hi level free left right)
+      (left : Leftward (placing h e.file) first l p) (right : Rightward (placing h e.file) (first + n) (board + n) y)
+      (made : (q : Placement) → Mending (placing h) q e.file l y p y 0 y → Remade h room q done g) where
+    assign_made : Remade h room (assigned (placing h) e.file first n board) done g
+    assign_made = made _ (assign_mending (placing h) e.file first n board l p y a.known a.some lo hi level free left right)
 
     pub assign_held : Held g
-    assign_held = remade_held h g room _ file first done v (held_assigned h v f first n board known top fits) assign_made
+    assign_held = remade_held h g room _ file first done v (held_assigned h v e.file first n board a.known a.top fits) assign_made
 
-    pub assign_outcome : (r : Result (Unit {0}) Fault) → r ≡ told file first done → None ≡ ground_of_assign file first n board
-        → ◌≡◌ {A = Outcome} (r, placing g) (assign_step rule_of_keys room (placing h) file first n board)
-    assign_outcome r is ok =
+    pub assign_outcome : (r : Result (Unit {0}) Fault) → r ≡ told file first done → ◌≡◌ {A = Outcome} (r, placing g) (assign_step rule_of_keys room (placing h) file first n board)
+    assign_outcome r is =
         subst (λ f. ◌≡◌ {A = Outcome} (r, placing g) (unless_ground (ground_of_assign file first n board) (placing h) file first
-        (unless_mapped (lowest_mapped_block (placing h f) first n) (placing h) file (if_room rule_of_keys room (placing h) (assigned (placing h) f first n board) file first)))) same
-        (granted_by (ground_of_assign file first n board) (placing h) file first _ _ ok
-        (unmapped_by (lowest_mapped_block (placing h f) first n) (placing h) file _ _ free (remade_outcome h g room _ file first done r is assign_made)))
+        (unless_mapped (lowest_mapped_block (placing h f) first n) (placing h) file (if_room rule_of_keys room (placing h) (assigned (placing h) f first n board) file first)))) a.same
+        (granted_by (ground_of_assign file first n board) (placing h) file first _ _ a.free
+        (unmapped_by (lowest_mapped_block (placing h e.file) first n) (placing h) file _ _ free (remade_outcome h g room _ file first done r is assign_made)))
 
-  module _ (l p y q : ℕ) (lo : l ≤ first) (hi : first + n ≤ y) (left : LeftEdge (placing h f) first l p) (right : RightEdge (placing h f) (first + n) y q)
-      (made : (q′ : Placement) → Mending (placing h) q′ f l first p (first + n) q y → Remade h room q′ done g) where
-    clear_made : Remade h room (cleared (placing h) f first n) done g
-    clear_made = made _ (clear_mending (placing h) f first n l p y q known some lo hi left right)
+  module _ (l p y q : ℕ) (a : Granted file first n (ground_of_extent file first n) e) (lo : l ≤ first) (hi : first + n ≤ y)
+      (left : LeftEdge (placing h e.file) first l p) (right : RightEdge (placing h e.file) (first + n) y q)
+      (made : (q′ : Placement) → Mending (placing h) q′ e.file l first p (first + n) q y → Remade h room q′ done g) where
+    clear_made : Remade h room (cleared (placing h) e.file first n) done g
+    clear_made = made _ (clear_mending (placing h) e.file first n l p y q a.known a.some lo hi left right)
 
     pub clear_held : Held g
-    clear_held = remade_held h g room _ file first done v (held_cleared h v f first n) clear_made
+    clear_held = remade_held h g room _ file first done v (held_cleared h v e.file first n) clear_made
 
-    pub clear_outcome : (r : Result (Unit {0}) Fault) → r ≡ told file first done → None ≡ ground_of_extent file first n
-        → ◌≡◌ {A = Outcome} (r, placing g) (clear_step rule_of_keys room (placing h) file first n)
-    clear_outcome r is ok =
+    pub clear_outcome : (r : Result (Unit {0}) Fault) → r ≡ told file first done → ◌≡◌ {A = Outcome} (r, placing g) (clear_step rule_of_keys room (placing h) file first n)
+    clear_outcome r is =
         subst (λ f. ◌≡◌ {A = Outcome} (r, placing g) (unless_ground (ground_of_extent file first n) (placing h) file first
-        (if_room rule_of_keys room (placing h) (cleared (placing h) f first n) file first))) same
-        (granted_by (ground_of_extent file first n) (placing h) file first _ _ ok (remade_outcome h g room _ file first done r is clear_made))
+        (if_room rule_of_keys room (placing h) (cleared (placing h) f first n) file first))) a.same
+        (granted_by (ground_of_extent file first n) (placing h) file first _ _ a.free (remade_outcome h g room _ file first done r is clear_made))

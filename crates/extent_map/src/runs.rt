@@ -32,6 +32,14 @@ impl Run {
     {
         Walk::between(self.first, self.end, self.board)
     }
+
+    /// How many keys the run has.
+    fn key_count(self) -> u64
+        ensures size { result ≤ 65536 }
+        ensures count { Counted self.first self.end result }
+    {
+        self.walk().count() as u64
+    }
 }
 
 /// Two runs and the hole between them.
@@ -102,7 +110,7 @@ pub fn drop_keys<T: Table>(table: &mut T, file: u16, l: u32, r: u32)
 
 impl<'a, T: Table> FileKeys<'a, T> {
     /// How many keys are held from l up to r.
-    pub fn count_keys(&self, l: u32, r: u32) -> u32
+    fn count_keys(&self, l: u32, r: u32) -> u32
         requires range { (l ≤ r) × (r ≤ 65536) }
         requires barrier { Barrier (placing (T.Table.holding self.now.table.now) self.now.file) r }
         ensures { result + tally (blend self.now.file l r none (T.Table.holding self.now.table.now)) ≡ tally (T.Table.holding self.now.table.now) }
@@ -117,16 +125,8 @@ impl<'a, T: Table> FileKeys<'a, T> {
     }
 }
 
-/// How many keys a run has.
-pub fn count_run(run: Run) -> u64
-    ensures size { result ≤ 65536 }
-    ensures count { Counted run.first run.end result }
-{
-    run.walk().count() as u64
-}
-
 /// Puts the keys of a run.
-pub fn put_run<T: Table>(table: &mut T, file: u16, run: Run)
+fn put_run<T: Table>(table: &mut T, file: u16, run: Run)
     ensures room { T.Table.places table.new ≡ T.Table.places table.old }
     ensures after { Laid (T.Table.holding table.old) (T.Table.places table.old) file run.first run.end run.board (T.Table.holding table.new) }
 {
@@ -151,7 +151,7 @@ pub fn mend<T: Table>(table: &mut T, file: u16, cut: Cut) -> Result<(), Ground>
         table: &*table,
         file,
     };
-    let more = count_run(cut.before) + count_run(cut.behind);
+    let more = cut.before.key_count() + cut.behind.key_count();
     let less = keys.count_keys(cut.before.first, cut.behind.end);
     if u64::from(table.held()) + more > u64::from(table.room()) + u64::from(less) {
         return Err(Ground::TooManyKeys);

@@ -11,8 +11,8 @@ returns-then-from-more-clause-after g c = λ n w.
     let q : Cut a.first a.end a.board b.first b.board b.end
     = record { before = a.order; between = c.args.cut.apart; behind = b.order; top = b.inside; low = a.fitting; high = b.fitting } in
     let o = refused _ c.requires.held n c.args.file a.first a.end a.board b.first b.board b.end q w
-    c.count_run.result c.count_run-2.result c.count_keys-less.result c.held.result (g.T.Table.places c.args.table.now)
-    c.count_run.ensures.count c.count_run-2.ensures.count c.count_keys-less.ensures c.held.ensures
+    c.key_count.result c.key_count-2.result c.count_keys-less.result c.held.result (g.T.Table.places c.args.table.now)
+    c.key_count.ensures.count c.key_count-2.ensures.count c.count_keys-less.ensures c.held.ensures
     (omega (arith, c.if-from-more.true, c.from.ensures, c.from-2.ensures, c.from-3.ensures, c.room.ensures)) in
     (leb-false _ _ (sym o), refl, refl)
 
@@ -23,8 +23,8 @@ returns-clause-after g c = λ n w.
     let q : Cut a.first a.end a.board b.first b.board b.end
     = record { before = a.order; between = c.args.cut.apart; behind = b.order; top = b.inside; low = a.fitting; high = b.fitting } in
     let o = enough _ c.requires.held n c.args.file a.first a.end a.board b.first b.board b.end q w
-    c.count_run.result c.count_run-2.result c.count_keys-less.result c.held.result (g.T.Table.places c.args.table.now)
-    c.count_run.ensures.count c.count_run-2.ensures.count c.count_keys-less.ensures c.held.ensures
+    c.key_count.result c.key_count-2.result c.count_keys-less.result c.held.result (g.T.Table.places c.args.table.now)
+    c.key_count.ensures.count c.key_count-2.ensures.count c.count_keys-less.ensures c.held.ensures
     (omega (arith, c.if-from-more.false, c.from.ensures, c.from-2.ensures, c.from-3.ensures, c.room.ensures)) in
     let e = c.drop_keys.ensures in
     let f = c.put_run.ensures in (

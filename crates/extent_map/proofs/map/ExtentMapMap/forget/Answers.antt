@@ -1,5 +1,4 @@
 use Rattle.std.proofs.Common.{◌≡◌, ℕ, sym, ap, ◌∙◌, subst, arith}
-use Rattle.faults.specs.declared.Layer.TheVariants.{Map}
 use Rattle.key_rule.specs.Keyed.{Held, keyed, placing}
 use Rattle.maps.specs.Steps.{forgotten, ground_of_block}
 use Rattle.key_rule.proofs.Changes.{forgotten_keys, held_forgotten}
@@ -14,7 +13,7 @@ invariant_of-self g c = record {
 
 pub returns-clause-step : goal.returns-clause-step
 returns-clause-step g c =
-    let n = granted {X = ℕ × ℕ} Map c.args.file 0 (ground_of_block c.args.file 0) (c.args.file, 0) (c.in_ok-file.file, c.in_ok-file.field-0-1) c.in_ok-file.ensures in
+    let n = granted {X = ℕ × ℕ} c.args.file 0 (ground_of_block c.args.file 0) (c.args.file, 0) (c.in_ok-file.file, c.in_ok-file.field-0-1) c.in_ok-file.ensures in
     forgotten_by _ _ c.args.file (omega (arith, below c.args.file _ n.0))
     (subst (λ f. g.T.Table.holding c.drop_keys.new.table ≡ keyed (forgotten (placing (g.T.Table.holding c.args.self.now.table)) f)) (ap (λ (p : ℕ × ℕ). p.0) n.1)
     (c.drop_keys.ensures.after ∙ forgotten_keys _ c.args.self.now.held c.in_ok-file.file))

@@ -1,6 +1,5 @@
 -- The counted look-up, by the table and by what is placed.
 use Rattle.std.proofs.Common.{◌≡◌, ℕ, ap}
-use Rattle.look_ups.specs.declared.Found.{Found}
 use Rattle.extents.specs.Extents.{KeyTable, lookup, tried}
 use Rattle.tables.specs.Holding.{Holding}
 use Rattle.maps.specs.Steps.{answer, ground_of_block}

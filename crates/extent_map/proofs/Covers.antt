@@ -1,11 +1,11 @@
 -- The first key on a block's path, kept if its extent contains the block.
-use Rattle.std.proofs.Common.{◌≡◌, ℕ, ◌+◌, ◌≤◌, Bool, true, false, nat_le, nat_lt, is_some, Some, None, Option, sym, refl, subst, arith}
+use Rattle.std.proofs.Common.{◌≡◌, ℕ, ◌+◌, Bool, true, false, nat_le, nat_lt, is_some, Some, None, Option, sym, refl}
 use Rattle.std.proofs.lemmas.Bool.{and_parts, leb-true, ltb-true, true≢false}
 use Rattle.std.specs.Prelude.{option_and_then}
 use Rattle.std.specs.Bool.{then_some}
 use Rattle.blocks.specs.Blocks.{inside}
 use Rattle.extents.specs.declared.key.Key.{Key}
-use Rattle.extents.specs.Extents.{FileMap, path, first_held_key}
+use Rattle.extents.specs.Extents.{path, first_held_key}
 use Rattle.tables.specs.Holding.{Holding}
 use Rattle.key_rule.specs.Keyed.{Held, placing}
 use Rattle.key_rule.specs.Mends.{Sane, Over}
@@ -36,13 +36,11 @@ module _ (h : Holding) (v : Held h) (f b : ℕ) where
             over_hit h v f b k e,
           )
 
--- ---- whether a block is mapped
+  -- whether there is such a key tells whether the block is mapped
+  pub mapped_under : (o : Option Key) → true ≡ is_some o → Found o → (p : ℕ) × (placing h f b ≡ Some p)
+  mapped_under None e k = absurd (true≢false e)
+  mapped_under (Some y) e (s, k) = (_, key_block (placing h f) y.start y.length y.board b k s.0 s.1)
 
-module _ (m : FileMap) (b : ℕ) where
-  pub mapped_under : (o : Option Key) → is_some o ≡ true → Sane b o → Over m b o → (v : ℕ) × (m b ≡ Some v)
-  mapped_under None e s k = absurd (true≢false (sym e))
-  mapped_under (Some y) e s k = (_, key_block m y.start y.length y.board b k s.0 s.1)
-
-  pub unmapped_under : (o : Option Key) → is_some o ≡ false → Over m b o → m b ≡ None
-  unmapped_under None e k = k
-  unmapped_under (Some y) e k = absurd (true≢false e)
+  pub unmapped_under : (o : Option Key) → false ≡ is_some o → Found o → placing h f b ≡ None
+  unmapped_under None e (_, k) = k
+  unmapped_under (Some y) e k = absurd (true≢false (sym e))

@@ -1,5 +1,5 @@
 -- What a call answers that makes a file's blocks anew, and the table that it leaves.
-use Rattle.std.proofs.Common.{◌≡◌, ℕ, ◌+◌, ◌<◌, ◌≤◌, ltb, None, Ok, Err, Result, sym, refl, ap, ◌∙◌, subst, arith}
+use Rattle.std.proofs.Common.{◌≡◌, ℕ, ◌+◌, ◌≤◌, ltb, None, Ok, Err, Result, sym, ap, ◌∙◌, subst}
 use Rattle.std.proofs.lemmas.Bool.{lt-ltb, le-ltb, cond-true, cond-false}
 use Rattle.faults.specs.declared.Fault.{Fault}
 use Rattle.faults.specs.declared.Ground.{Ground}
@@ -10,7 +10,7 @@ use Rattle.maps.specs.Steps.{Outcome, if_room, unless_mapped, unless_ground, ass
 use Rattle.key_rule.specs.Keyed.{Held, keyed, placing, rule_of_keys}
 use Rattle.key_rule.specs.Mends.{Mending, Leftward, Rightward, LeftEdge, RightEdge}
 use Rattle.key_rule.proofs.Mends.{placing_keyed}
-use Rattle.key_rule.proofs.Changes.{assign_mending, clear_mending, held_assigned, held_cleared, after_extent}
+use Rattle.key_rule.proofs.Changes.{assign_mending, clear_mending, held_assigned, held_cleared}
 use Rattle.key_rule.proofs.Outcomes.{granted_by, unmapped_by}
 use Rattle.maps.specs.declared.extent.Extent.{Extent}
 use Rattle.extent_map.specs.Calls.{Remade}

@@ -1,6 +1,6 @@
 //! Where the change of an extent begins and ends, and what it meets.
 
-ghost use Rattle.std.specs.Prelude.{◌≡◌, ℕ, ◌+◌, ◌-◌, ◌<◌, ◌≤◌};
+ghost use Rattle.std.specs.Prelude.{◌≡◌, ◌+◌, ◌-◌, ◌<◌, ◌≤◌};
 ghost use Rattle.extents.specs.Extents.{Barrier};
 ghost use Rattle.key_rule.specs.Keyed.{placing};
 ghost use Rattle.key_rule.specs.Mends.{Leftward, Rightward, LeftEdge, RightEdge};

@@ -1,6 +1,6 @@
 //! Keys counted, dropped and put, many at a time.
 
-ghost use Rattle.std.specs.Prelude.{◌≡◌, ℕ, ◌+◌, ◌-◌, ◌<◌, ◌≤◌};
+ghost use Rattle.std.specs.Prelude.{◌≡◌, ◌+◌, ◌-◌, ◌≤◌};
 ghost use Rattle.blocks.specs.Blocks.{Placement, tally};
 ghost use Rattle.extents.specs.Extents.{Barrier};
 ghost use Rattle.key_rule.specs.Keyed.{Held, placing};

@@ -1,5 +1,4 @@
-use Rattle.std.proofs.Common.{subst, arith}
-use Rattle.extent_map.specs.Calls.{Next}
+use Rattle.std.proofs.Common.{arith}
 use Rattle.extent_map.proofs.Nexts.{next_none, next_row, next_past}
 use Rattle.extent_map.proofs.runs.next_key.Goals as goal
 

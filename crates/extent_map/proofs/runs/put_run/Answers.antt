@@ -1,4 +1,4 @@
-use Rattle.std.proofs.Common.{◌≡◌, sym, refl, ap, ◌∙◌, subst, arith}
+use Rattle.std.proofs.Common.{sym, refl, ap, ◌∙◌, subst, arith}
 use Rattle.extents.specs.Extents.{Barrier, key_at}
 use Rattle.extents.proofs.Greed.{piece_fits}
 use Rattle.run_keys.specs.declared.walk.Walk.{Walk}

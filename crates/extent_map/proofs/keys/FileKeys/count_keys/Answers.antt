@@ -1,6 +1,6 @@
 use Rattle.std.proofs.Common.{◌+◌, ap, ◌∙◌, arith}
 use Rattle.blocks.specs.Blocks.{tally}
-use Rattle.key_rule.specs.Mends.{blend, none}
+use Rattle.key_rule.specs.Mends.{none}
 use Rattle.tables.specs.Holding.{Holding}
 use Rattle.key_rule.proofs.Tallies.{blend_empty}
 use Rattle.extent_map.proofs.Nexts.{none_left, long, next_stops, next_counts}

@@ -7,27 +7,31 @@ use Rattle.extent_map.proofs.keys.FileKeys.lowest_mapped.Goals as goal
 pub returns-then-is_some : goal.returns-then-is_some
 returns-then-is_some g c =
     let e = c.key_over.ensures in
-    let y = mapped_under (placing (g.T.Table.holding c.args.self.now.table.now) c.args.self.now.file) c.args.first c.key_over.result (sym c.if-is_some.ensures) e.sane e.found in
+    let y = mapped_under _ c.args.self.now.held c.args.self.now.file c.args.first c.key_over.result c.if-is_some.ensures (e.sane, e.found) in
     lowest_here _ c.args.first c.args.n y.0 c.requires.0 y.1
 
 pub returns-then-n-eq1 : goal.returns-then-n-eq1
 returns-then-n-eq1 g c =
-    let hole = unmapped_under (placing (g.T.Table.holding c.args.self.now.table.now) c.args.self.now.file) c.args.first c.key_over.result (sym c.if-is_some.ensures) c.key_over.ensures.found in
+    let e = c.key_over.ensures in
+    let hole = unmapped_under _ c.args.self.now.held c.args.self.now.file c.args.first c.key_over.result c.if-is_some.ensures (e.sane, e.found) in
     lowest_one _ c.args.self.now.held c.args.self.now.file c.args.first c.args.n hole (omega arith)
 
 pub returns-in_err-row : goal.returns-in_err-row
 returns-in_err-row g c =
-    let hole = unmapped_under (placing (g.T.Table.holding c.args.self.now.table.now) c.args.self.now.file) c.args.first c.key_over.result (sym c.if-is_some.ensures) c.key_over.ensures.found in
+    let e = c.key_over.ensures in
+    let hole = unmapped_under _ c.args.self.now.held c.args.self.now.file c.args.first c.key_over.result c.if-is_some.ensures (e.sane, e.found) in
     rw c.from_residual.ensures (lowest_end _ c.args.self.now.held c.args.self.now.file c.args.first c.args.n hole c.in_err-row.ensures c.requires.1)
 
 pub returns-then-start-first : goal.returns-then-start-first
 returns-then-start-first g c =
-    let hole = unmapped_under (placing (g.T.Table.holding c.args.self.now.table.now) c.args.self.now.file) c.args.first c.key_over.result (sym c.if-is_some.ensures) c.key_over.ensures.found in
+    let e = c.key_over.ensures in
+    let hole = unmapped_under _ c.args.self.now.held c.args.self.now.file c.args.first c.key_over.result c.if-is_some.ensures (e.sane, e.found) in
     rw c.from-start.ensures (lowest_key _ c.args.self.now.held c.args.self.now.file c.args.first c.args.n hole c.in_ok-row.row c.in_ok-row.ensures (omega arith)
     (rw c.from-start.ensures at c.if-start-first.true))
 
 pub returns-else-start-first : goal.returns-else-start-first
 returns-else-start-first g c =
-    let hole = unmapped_under (placing (g.T.Table.holding c.args.self.now.table.now) c.args.self.now.file) c.args.first c.key_over.result (sym c.if-is_some.ensures) c.key_over.ensures.found in
+    let e = c.key_over.ensures in
+    let hole = unmapped_under _ c.args.self.now.held c.args.self.now.file c.args.first c.key_over.result c.if-is_some.ensures (e.sane, e.found) in
     lowest_past _ c.args.self.now.held c.args.self.now.file c.args.first c.args.n hole c.in_ok-row.row c.in_ok-row.ensures (omega arith)
     (rw c.from-start.ensures at c.if-start-first.false)

@@ -1,6 +1,6 @@
 //! The plan of a text of runs, one a line.
 
-ghost use Rattle.std.specs.Prelude.{◌≡◌, ◌++◌, length, Some, string_bytes, MatchResult, OnOk};
+ghost use Rattle.std.specs.Prelude.{◌≡◌, ◌++◌, length, Some, string_bytes, MatchResult, IfErr, OnOk};
 ghost use Rattle.lines.specs.Lines.{lines};
 ghost use Rattle.planning.specs.declared.plan.PlanError.TheVariants.{NoMemory};
 ghost use Rattle.planning.specs.Plans.{outcome, keys_text, line_text, Room, counted, summary_of, plan_text, failure_text, Failed};
@@ -54,10 +54,11 @@ struct Draft {
 
 impl Draft {
     /// Adds the answer to a line.
-    fn add(&mut self, heap: Global, line: &[u8]) -> Result<(), AllocError>
+    fn add(&mut self, heap: Global, line: &[u8]) -> Result<(), PlanError>
         requires { Room self.old.counts }
         ensures text { OnOk result (string_bytes self.new.text ≡ string_bytes self.old.text ++ line_text (outcome line.now)) }
         ensures counts { OnOk result (self.new.counts ≡ counted self.old.counts (outcome line.now)) }
+        ensures failed { IfErr result (λ e. e ≡ NoMemory) }
     {
         match PlannedRun::of_line(heap, line) {
             Ok(planned) => {
@@ -70,7 +71,7 @@ impl Draft {
                 self.counts.lines += 1;
                 self.counts.refused += 1;
             }
-            Err(RunError::NoMemory) => return Err(AllocError),
+            Err(RunError::NoMemory) => return Err(PlanError::NoMemory),
         }
         Ok(())
     }

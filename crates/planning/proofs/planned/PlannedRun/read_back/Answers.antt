@@ -11,7 +11,7 @@ loop-i-init c = back_start (table_of (vec_items c.args.self.now.keys)) c.args.se
 
 pub loop-i-preserved : goal.loop-i-preserved
 loop-i-preserved c =
-    let found = c.look_up-found.ensures tt in
+    let found = c.look_up-found.ensures in
     subst (Back (table_of (vec_items c.args.self.now.keys)) c.args.self.now.run.first c.args.self.now.run.board (c.loop-i.i + 1) (c.loop-i.right + c.from-right.result))
     (sym c.max-tried.ensures)
     (back_next (table_of (vec_items c.args.self.now.keys)) c.args.self.now.run.first c.args.self.now.run.board c.loop-i.i c.loop-i.right c.loop-i.tried

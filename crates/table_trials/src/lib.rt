@@ -8,7 +8,7 @@ mod tests {
     use faults::{Fault, Ground, Layer};
     use ordered::OrderedTable;
     use probing::table::ProbingTable;
-    use std::alloc::{AllocError, Global};
+    use std::alloc::AllocError;
     use std::collections::BTreeMap;
     use std::process::Abort;
     use std::test::Fail;
@@ -26,76 +26,58 @@ mod tests {
         Empty,
     }
 
-    // What a table told.
+    // What a table answered.
     #[derive(Clone, Copy, PartialEq, Eq, Debug)]
     enum Told {
         Done,
-        At(Entry),
-        Row(Row),
-        None,
+        Entry(Option<Entry>),
+        Lowest(Option<Row>),
         Dropped(bool),
-        No(Fault),
     }
 
-    fn put<T: Table>(table: &mut T, file: u32, block: u32, length: u16, board: u16) -> Told {
-        match table.put(file, block, Entry { length, board }) {
-            Ok(()) => Told::Done,
-            Err(fault) => Told::No(fault),
-        }
-    }
-
-    fn get<T: Table>(table: &T, file: u32, block: u32) -> Told {
-        match table.get(file, block) {
-            Ok(Some(entry)) => Told::At(entry),
-            Ok(None) => Told::None,
-            Err(fault) => Told::No(fault),
-        }
-    }
-
-    fn dropped<T: Table>(table: &mut T, file: u32, block: u32) -> Told {
-        match table.drop(file, block) {
-            Ok(there) => Told::Dropped(there),
-            Err(fault) => Told::No(fault),
-        }
-    }
-
-    fn lowest<T: Table>(table: &T, file: u32, block: u32) -> Told {
-        match table.lowest(file, block) {
-            Ok(Some(row)) => Told::Row(row),
-            Ok(None) => Told::None,
-            Err(fault) => Told::No(fault),
-        }
-    }
-
-    fn tell<T: Table>(table: &mut T, call: Call) -> Told {
+    // What a table answers to a call, or its refusal.
+    fn tell<T: Table>(table: &mut T, call: Call) -> Result<Told, Fault> {
         match call {
-            Call::Put(file, block, length, board) => put(table, file, block, length, board),
-            Call::Get(file, block) => get(table, file, block),
-            Call::Drop(file, block) => dropped(table, file, block),
-            Call::Lowest(file, block) => lowest(table, file, block),
+            Call::Put(file, block, length, board) => {
+                table.put(file, block, Entry { length, board })?;
+                Ok(Told::Done)
+            }
+            Call::Get(file, block) => Ok(Told::Entry(table.get(file, block)?)),
+            Call::Drop(file, block) => Ok(Told::Dropped(table.drop(file, block)?)),
+            Call::Lowest(file, block) => Ok(Told::Lowest(table.lowest(file, block)?)),
             Call::Empty => {
                 table.empty();
-                Told::Done
+                Ok(Told::Done)
             }
         }
     }
 
     // ---- examples
 
-    fn at(length: u16, board: u16) -> Told {
-        Told::At(Entry { length, board })
+    const DONE: Result<Told, Fault> = Ok(Told::Done);
+
+    const NO_ENTRY: Result<Told, Fault> = Ok(Told::Entry(None));
+
+    const NO_ROW: Result<Told, Fault> = Ok(Told::Lowest(None));
+
+    fn at(length: u16, board: u16) -> Result<Told, Fault> {
+        Ok(Told::Entry(Some(Entry { length, board })))
     }
 
-    fn row(file: u16, block: u16, length: u16, board: u16) -> Told {
-        Told::Row(Row {
+    fn row(file: u16, block: u16, length: u16, board: u16) -> Result<Told, Fault> {
+        Ok(Told::Lowest(Some(Row {
             file,
             block,
             entry: Entry { length, board },
-        })
+        })))
     }
 
-    fn no(ground: Ground, file: u32, block: u32) -> Told {
-        Told::No(Fault {
+    fn dropped(there: bool) -> Result<Told, Fault> {
+        Ok(Told::Dropped(there))
+    }
+
+    fn no(ground: Ground, file: u32, block: u32) -> Result<Told, Fault> {
+        Err(Fault {
             ground,
             layer: Layer::Table,
             file,
@@ -104,7 +86,12 @@ mod tests {
     }
 
     // Makes the calls of a script on a table, and compares what it tells, and how many keys it holds in the end.
-    fn run<T: Table>(rt: &impl Abort, table: &mut T, script: &[(Call, Told)], held: u32) {
+    fn run<T: Table>(
+        rt: &impl Abort,
+        table: &mut T,
+        script: &[(Call, Result<Told, Fault>)],
+        held: u32,
+    ) {
         for (call, told) in script {
             assert_eq!(rt; tell(table, *call), *told);
         }
@@ -115,7 +102,7 @@ mod tests {
     fn on_each(
         rt: &(impl Abort + AllocGlobal),
         n: u32,
-        script: &[(Call, Told)],
+        script: &[(Call, Result<Told, Fault>)],
         held: u32,
     ) -> Result<(), Fail> {
         run(rt, &mut OrderedTable::new(rt.alloc(), n)?, script, held);
@@ -138,10 +125,10 @@ mod tests {
     fn no_places(rt: HostRuntime) -> Result<(), Fail> {
         let script = [
             (Call::Put(1, 2, 1, 9), no(Ground::TableFull, 1, 2)),
-            (Call::Get(1, 2), Told::None),
-            (Call::Drop(1, 2), Told::Dropped(false)),
-            (Call::Lowest(1, 0), Told::None),
-            (Call::Empty, Told::Done),
+            (Call::Get(1, 2), NO_ENTRY),
+            (Call::Drop(1, 2), dropped(false)),
+            (Call::Lowest(1, 0), NO_ROW),
+            (Call::Empty, DONE),
         ];
         on_each(&rt, 0, &script, 0)
     }
@@ -149,17 +136,17 @@ mod tests {
     #[test]
     fn one_place(rt: HostRuntime) -> Result<(), Fail> {
         let script = [
-            (Call::Put(65535, 65535, 65535, 65535), Told::Done),
+            (Call::Put(65535, 65535, 65535, 65535), DONE),
             (Call::Get(65535, 65535), at(65535, 65535)),
-            (Call::Put(65535, 65535, 0, 7), Told::Done),
+            (Call::Put(65535, 65535, 0, 7), DONE),
             (
                 Call::Put(65535, 65534, 1, 1),
                 no(Ground::TableFull, 65535, 65534),
             ),
             (Call::Get(65535, 65535), at(0, 7)),
-            (Call::Drop(65535, 65534), Told::Dropped(false)),
-            (Call::Drop(65535, 65535), Told::Dropped(true)),
-            (Call::Put(65535, 65534, 1, 1), Told::Done),
+            (Call::Drop(65535, 65534), dropped(false)),
+            (Call::Drop(65535, 65535), dropped(true)),
+            (Call::Put(65535, 65534, 1, 1), DONE),
         ];
         on_each(&rt, 1, &script, 1)
     }
@@ -167,7 +154,7 @@ mod tests {
     #[test]
     fn wide_numbers(rt: HostRuntime) -> Result<(), Fail> {
         let script = [
-            (Call::Put(65535, 65535, 4, 5), Told::Done),
+            (Call::Put(65535, 65535, 4, 5), DONE),
             (
                 Call::Put(65536, 65536, 4, 5),
                 no(Ground::File, 65536, 65536),
@@ -187,16 +174,16 @@ mod tests {
     #[test]
     fn lowest_keys(rt: HostRuntime) -> Result<(), Fail> {
         let script = [
-            (Call::Put(1, 10, 2, 3), Told::Done),
-            (Call::Put(1, 4, 4, 5), Told::Done),
-            (Call::Put(2, 0, 6, 7), Told::Done),
-            (Call::Put(1, 65535, 8, 9), Told::Done),
+            (Call::Put(1, 10, 2, 3), DONE),
+            (Call::Put(1, 4, 4, 5), DONE),
+            (Call::Put(2, 0, 6, 7), DONE),
+            (Call::Put(1, 65535, 8, 9), DONE),
             (Call::Lowest(1, 4), row(1, 4, 4, 5)),
             (Call::Lowest(1, 5), row(1, 10, 2, 3)),
             (Call::Lowest(1, 11), row(1, 65535, 8, 9)),
             (Call::Lowest(2, 0), row(2, 0, 6, 7)),
-            (Call::Lowest(2, 1), Told::None),
-            (Call::Lowest(0, 0), Told::None),
+            (Call::Lowest(2, 1), NO_ROW),
+            (Call::Lowest(0, 0), NO_ROW),
         ];
         on_each(&rt, 4, &script, 4)
     }
@@ -205,13 +192,13 @@ mod tests {
     #[test]
     fn going_round(rt: HostRuntime) -> Result<(), Fail> {
         let script = [
-            (Call::Put(0, 7, 1, 1), Told::Done),
-            (Call::Put(0, 15, 1, 2), Told::Done),
-            (Call::Put(0, 23, 1, 3), Told::Done),
-            (Call::Drop(0, 7), Told::Dropped(true)),
+            (Call::Put(0, 7, 1, 1), DONE),
+            (Call::Put(0, 15, 1, 2), DONE),
+            (Call::Put(0, 23, 1, 3), DONE),
+            (Call::Drop(0, 7), dropped(true)),
             (Call::Get(0, 15), at(1, 2)),
             (Call::Get(0, 23), at(1, 3)),
-            (Call::Get(0, 7), Told::None),
+            (Call::Get(0, 7), NO_ENTRY),
         ];
         let mut table = ProbingTable::new(rt.alloc(), 8, Level)?;
         run(&rt, &mut table, &script, 2);
@@ -230,51 +217,52 @@ mod tests {
 
     // ---- the greatest room
 
-    // Puts a key for each number, by thirds in three files, and tells how many were refused.
-    fn fill<T: Table>(table: &mut T, first: u16, n: u16) -> u32 {
-        let mut refused = 0u32;
-        for i in 0..n {
-            let block = first.wrapping_add(i.wrapping_mul(31)) as u32;
-            if let Err(_) = table.put(
-                (i % 3) as u32,
-                block,
-                Entry {
-                    length: 1,
-                    board: i,
-                },
-            ) {
-                refused = refused.saturating_add(1);
-            }
-        }
-        refused
+    // The i-th of the keys from a block on, by thirds in three files.
+    fn third(first: u16, i: u16) -> (u32, u32) {
+        (
+            u32::from(i % 3),
+            u32::from(first.wrapping_add(i.wrapping_mul(31))),
+        )
+    }
+
+    // Puts so many of these keys, and tells how many were refused.
+    fn fill<T: Table>(table: &mut T, first: u16, n: u16) -> usize {
+        (0..n)
+            .map(|i| {
+                let (file, block) = third(first, i);
+                table.put(
+                    file,
+                    block,
+                    Entry {
+                        length: 1,
+                        board: i,
+                    },
+                )
+            })
+            .filter(|answer| answer.is_err())
+            .count()
     }
 
     // Drops every other of these keys, and tells how many were there.
-    fn thin<T: Table>(table: &mut T, first: u16, n: u16) -> u32 {
-        let mut there = 0u32;
-        for i in 0..n {
-            if i % 2 == 0 {
-                let block = first.wrapping_add(i.wrapping_mul(31)) as u32;
-                if let Ok(true) = table.drop((i % 3) as u32, block) {
-                    there = there.saturating_add(1);
-                }
-            }
-        }
-        there
+    fn thin<T: Table>(table: &mut T, first: u16, n: u16) -> usize {
+        (0..n)
+            .filter(|i| *i % 2 == 0)
+            .map(|i| {
+                let (file, block) = third(first, i);
+                table.drop(file, block)
+            })
+            .filter(|answer| *answer == Ok(true))
+            .count()
     }
 
     // Tells how many of these keys are found with their entries.
-    fn seen<T: Table>(table: &T, first: u16, n: u16) -> u32 {
-        let mut found = 0u32;
-        for i in 0..n {
-            let block = first.wrapping_add(i.wrapping_mul(31)) as u32;
-            if let Ok(Some(entry)) = table.get((i % 3) as u32, block) {
-                if entry.board == i {
-                    found = found.saturating_add(1);
-                }
-            }
-        }
-        found
+    fn seen<T: Table>(table: &T, first: u16, n: u16) -> usize {
+        (0..n)
+            .filter(|i| {
+                let (file, block) = third(first, *i);
+                matches!(table.get(file, block), Ok(Some(entry)) if entry.board == *i)
+            })
+            .count()
     }
 
     fn crowded<T: Table>(rt: &impl Abort, table: &mut T) {
@@ -302,8 +290,12 @@ mod tests {
         file.wrapping_mul(65536).wrapping_add(block)
     }
 
-    // What a table with this room is to tell, by a map of the library.
-    fn model(map: &mut BTreeMap<u32, Entry>, room: usize, call: Call) -> Result<Told, AllocError> {
+    // What a table with this room is to answer, by a map of the library.
+    fn model(
+        map: &mut BTreeMap<u32, Entry>,
+        room: usize,
+        call: Call,
+    ) -> Result<Result<Told, Fault>, AllocError> {
         match call {
             Call::Put(file, block, length, board) => {
                 let full = map.len() >= room && !map.contains_key(&key(file, block));
@@ -311,36 +303,30 @@ mod tests {
                     return Ok(no(Ground::TableFull, file, block));
                 }
                 let _ = map.insert(key(file, block), Entry { length, board })?;
-                Ok(Told::Done)
+                Ok(DONE)
             }
-            Call::Get(file, block) => match map.get(&key(file, block)) {
-                Some(entry) => Ok(Told::At(*entry)),
-                None => Ok(Told::None),
-            },
-            Call::Drop(file, block) => Ok(Told::Dropped(map.remove(&key(file, block)).is_some())),
-            Call::Lowest(file, block) => Ok(next_key(map, file, block)),
+            Call::Get(file, block) => Ok(Ok(Told::Entry(map.get(&key(file, block)).copied()))),
+            Call::Drop(file, block) => Ok(dropped(map.remove(&key(file, block)).is_some())),
+            Call::Lowest(file, block) => Ok(Ok(Told::Lowest(next_key(map, file, block)))),
             Call::Empty => {
                 map.clear();
-                Ok(Told::Done)
+                Ok(DONE)
             }
         }
     }
 
-    fn next_key(map: &BTreeMap<u32, Entry>, file: u32, block: u32) -> Told {
+    fn next_key(map: &BTreeMap<u32, Entry>, file: u32, block: u32) -> Option<Row> {
         let from = key(file, block);
         let to = key(file, 65535);
         if from > to {
-            return Told::None;
+            return None;
         }
-        match map.range(from..=to).next() {
-            Some((k, entry)) => row(
-                (*k / 65536) as u16,
-                (*k % 65536) as u16,
-                entry.length,
-                entry.board,
-            ),
-            None => Told::None,
-        }
+        let (k, entry) = map.range(from..=to).next()?;
+        Some(Row {
+            file: (*k / 65536) as u16,
+            block: (*k % 65536) as u16,
+            entry: *entry,
+        })
     }
 
     // The next number of a simple row of random ones.
@@ -349,13 +335,14 @@ mod tests {
         *x / 65536
     }
 
+    // A random number below n, or the last if n is 0.
+    fn random_below(x: &mut u32, n: u32) -> u32 {
+        if n == 0 { 65535 } else { random(x) % n }
+    }
+
     fn random_call(x: &mut u32, files: u32, blocks: u32) -> Call {
-        let file = if files == 0 { 65535 } else { random(x) % files };
-        let block = if blocks == 0 {
-            65535
-        } else {
-            random(x) % blocks
-        };
+        let file = random_below(x, files);
+        let block = random_below(x, blocks);
         let choice = random(x) % 1000;
         if choice < 400 {
             Call::Put(
@@ -376,14 +363,13 @@ mod tests {
     }
 
     fn beside<T: Table>(
-        rt: &impl Abort,
-        heap: Global,
+        rt: &(impl Abort + AllocGlobal),
         table: &mut T,
         seed: u32,
         files: u32,
         blocks: u32,
     ) -> Result<(), Fail> {
-        let mut map = BTreeMap::new(heap);
+        let mut map = BTreeMap::new(rt.alloc());
         let room = table.room() as usize;
         let mut x = seed;
         for i in 0..20000u32 {
@@ -396,85 +382,34 @@ mod tests {
 
     #[test]
     fn ordered_beside_a_map(rt: HostRuntime) -> Result<(), Fail> {
-        beside(
-            &rt,
-            rt.alloc(),
-            &mut OrderedTable::new(rt.alloc(), 13)?,
-            1,
-            3,
-            9,
-        )?;
-        beside(
-            &rt,
-            rt.alloc(),
-            &mut OrderedTable::new(rt.alloc(), 300)?,
-            2,
-            600,
-            0,
-        )?;
-        beside(
-            &rt,
-            rt.alloc(),
-            &mut OrderedTable::new(rt.alloc(), 300)?,
-            3,
-            7,
-            65536,
-        )
+        beside(&rt, &mut OrderedTable::new(rt.alloc(), 13)?, 1, 3, 9)?;
+        beside(&rt, &mut OrderedTable::new(rt.alloc(), 300)?, 2, 600, 0)?;
+        beside(&rt, &mut OrderedTable::new(rt.alloc(), 300)?, 3, 7, 65536)
+    }
+
+    fn probing_beside<S: Spread + Drop>(
+        rt: &(impl Abort + AllocGlobal),
+        spread: S,
+        n: u32,
+        seed: u32,
+        files: u32,
+        blocks: u32,
+    ) -> Result<(), Fail> {
+        let mut table = ProbingTable::new(rt.alloc(), n, spread)?;
+        beside(rt, &mut table, seed, files, blocks)
     }
 
     #[test]
     fn mixing_beside_a_map(rt: HostRuntime) -> Result<(), Fail> {
-        beside(
-            &rt,
-            rt.alloc(),
-            &mut ProbingTable::new(rt.alloc(), 13, Mixing)?,
-            4,
-            3,
-            9,
-        )?;
-        beside(
-            &rt,
-            rt.alloc(),
-            &mut ProbingTable::new(rt.alloc(), 64, Mixing)?,
-            6,
-            0,
-            100,
-        )?;
-        beside(
-            &rt,
-            rt.alloc(),
-            &mut ProbingTable::new(rt.alloc(), 300, Mixing)?,
-            7,
-            7,
-            65536,
-        )
+        probing_beside(&rt, Mixing, 13, 4, 3, 9)?;
+        probing_beside(&rt, Mixing, 64, 6, 0, 100)?;
+        probing_beside(&rt, Mixing, 300, 7, 7, 65536)
     }
 
     #[test]
     fn level_beside_a_map(rt: HostRuntime) -> Result<(), Fail> {
-        beside(
-            &rt,
-            rt.alloc(),
-            &mut ProbingTable::new(rt.alloc(), 8, Level)?,
-            8,
-            3,
-            5,
-        )?;
-        beside(
-            &rt,
-            rt.alloc(),
-            &mut ProbingTable::new(rt.alloc(), 64, Level)?,
-            10,
-            2,
-            40,
-        )?;
-        beside(
-            &rt,
-            rt.alloc(),
-            &mut ProbingTable::new(rt.alloc(), 300, Level)?,
-            11,
-            7,
-            65536,
-        )
+        probing_beside(&rt, Level, 8, 8, 3, 5)?;
+        probing_beside(&rt, Level, 64, 10, 2, 40)?;
+        probing_beside(&rt, Level, 300, 11, 7, 65536)
     }
 }

@@ -16,7 +16,7 @@ pub struct Slot {
     pub row: Option<Row>,
 }
 
-/// What a search comes to: the key, a free slot, or neither.
+/// What a search comes to: the key, a free slot, or neither. No type of the library has these three cases.
 #[derive(Clone, Copy)]
 pub enum Probe {
     Found(usize),
@@ -93,6 +93,7 @@ impl Slots {
         if from >= n {
             return Probe::Full;
         }
+        // The contract measures how far a slot lies from the first, and that is k: two ranges in a chain would lose it.
         for k in 0..n {
             let place = onward(n, from, k);
             let Some(row) = self.slots[place].row else {

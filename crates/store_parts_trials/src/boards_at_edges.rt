@@ -1,18 +1,11 @@
 ghost use Rattle.std.specs.Prelude.{◌≡◌, ◌*◌, is_ok, if◌then◌else◌};
 ghost use Rattle.memory.specs.Memory.{overlaid};
 
+use crate::answers::refusal;
 use blocks::BLOCK_BYTES;
 use boards::{Board, JoinedBoard, MemoryBoard};
 use faults::Fault;
 use std::test::Fail;
-
-/// The number and the block of a refusal, and 0 for a granted call.
-fn refusal(r: Result<(), Fault>) -> (u32, u32) {
-    match r {
-        Ok(()) => (0, 0),
-        Err(fault) => (fault.ground.number(), fault.block),
-    }
-}
 
 /// What a read into a block of nines tells: the refusal, and the last byte of the buffer.
 fn read<B: Board>(board: &mut B, number: u32) -> (u32, u8) {

@@ -3,6 +3,8 @@
 #![tactic(auto)]
 
 #[cfg(test)]
+mod answers;
+#[cfg(test)]
 mod boards_at_edges;
 #[cfg(test)]
 mod lowers_at_edges;

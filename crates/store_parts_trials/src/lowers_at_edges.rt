@@ -2,6 +2,7 @@ ghost use Rattle.std.specs.Prelude.{◌≡◌, ◌*◌, replicate, is_ok, if◌t
 ghost use Rattle.memory.specs.Memory.{overlaid};
 ghost use Rattle.flat.specs.Flat.{width_of, index_of};
 
+use crate::answers::refusal;
 use blocks::BLOCK_BYTES;
 use faults::Fault;
 use flat::{FlatStore, Picture};
@@ -10,10 +11,7 @@ use std::test::Fail;
 
 /// The number of a refusal, and 0 for a granted call.
 fn ground(r: Result<(), Fault>) -> u32 {
-    match r {
-        Ok(()) => 0,
-        Err(fault) => fault.ground.number(),
-    }
+    refusal(r).0
 }
 
 /// What a read into a block of nines tells: the ground of refusal, and the last byte of the buffer.

@@ -14,6 +14,9 @@ use block_set::BlockSet;
 use faults::Fault;
 use maps::Map;
 
+// Goal and size, or file and block, are numbers as a call of the store or the map has them: a struct of two would be made and
+// taken apart at each call.
+
 /// A board block that was taken from the pool.
 ///
 /// It cannot be let go: it is entered in a map or handed back.

@@ -125,6 +125,7 @@ pub fn copy_down<M: Map, B: Board, L: Lower>(map: &mut M, board: &mut B, lower: 
 }
 
 /// The board blocks that some mapped blocks of a file have, and how many blocks these are.
+// The count is no length of the set, which tells of two blocks at one board block once.
 #[derive(Drop)]
 pub struct Gathered {
     pub blocks: BlockSet,

@@ -67,7 +67,7 @@ impl<'a> MemoryBoard<'a> {
         Self { bytes }
     }
 
-    /// Copies a block out, without a note of it.
+    /// Copies a block out. It stands apart from `read`, where a proof no longer knows, once the bytes are lent, that the board is as it was.
     fn copy_out(&self, number: u32, to: &mut [u8]) -> Result<(), Fault>
         ensures answer { result ≡ board_answer (size_in self.now.bytes.now) number (length to.old) }
         ensures buffer { to.new ≡ (if is_ok result then block_in self.now.bytes.now number else to.old) }

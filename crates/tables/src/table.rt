@@ -38,7 +38,7 @@ pub trait Table {
     fn find(&self, file: u16, block: u16) -> Option<Entry>
         ensures { result ≡ holding self.now file block };
 
-    /// Adds or replaces the entry under a key, and tells whether there was room.
+    /// Adds or replaces the entry under a key, and tells whether there was room (as the library's sets tell of an insert).
     fn store(&mut self, file: u16, block: u16, entry: Entry) -> bool
         ensures room { places self.new ≡ places self.old }
         ensures answer { result ≡ not (full (holding self.old) (places self.old) file block) }

@@ -9,13 +9,13 @@ ghost use Rattle.admission.specs.Admission.{ground_of_write, ground_of_file};
 
 use calls::StoreFault;
 use faults::{Ground, Layer};
-use lowers::{Lower, block_ground, extent_ground};
+use lowers::{Lower, Reading};
 
 /// Whether a read of a block with a buffer of so many bytes is admitted.
 pub fn admit_read<L: Lower>(lower: &L, file: u32, block: u32, len: usize) -> Result<(), StoreFault>
     ensures { result ≡ unless (ground_of_block (L.Reading.files lower.now) (L.Reading.width lower.now) file block len) file block (Ok tt) }
 {
-    let ground = block_ground(lower.files(), lower.width(), file, block, len);
+    let ground = lower.sizes().block_ground(file, block, len);
     Layer::Store
         .grant_unless(ground, file, block)
         .map_err(StoreFault::Own)
@@ -32,7 +32,7 @@ pub fn admit_write<L: Lower>(
     ensures { result ≡ unless (ground_of_write (L.Reading.files lower.now) (L.Reading.width lower.now) file block mark len) file block (Ok tt) }
 {
     let bad_mark = (mark > 1).then_some(Ground::Mark);
-    let ground = bad_mark.or(block_ground(lower.files(), lower.width(), file, block, len));
+    let ground = bad_mark.or(lower.sizes().block_ground(file, block, len));
     Layer::Store
         .grant_unless(ground, file, block)
         .map_err(StoreFault::Own)
@@ -42,7 +42,7 @@ pub fn admit_write<L: Lower>(
 pub fn admit_clear<L: Lower>(lower: &L, file: u32, first: u32, n: u32) -> Result<(), StoreFault>
     ensures { result ≡ unless (ground_of_extent (L.Reading.files lower.now) (L.Reading.width lower.now) file first n) file first (Ok tt) }
 {
-    let ground = extent_ground(lower.files(), lower.width(), file, first, n);
+    let ground = lower.sizes().extent_ground(file, first, n);
     Layer::Store
         .grant_unless(ground, file, first)
         .map_err(StoreFault::Own)

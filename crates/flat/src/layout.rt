@@ -4,6 +4,7 @@ ghost use Rattle.std.specs.Prelude.{◌≡◌, ◌*◌, ◌^◌, ◌<◌, ◌≤
 ghost use Rattle.flat.specs.Flat.{width_of, files_in, index_of};
 
 use blocks::{BLOCK_BYTES, NUMBERS};
+use lowers::Sizes;
 
 /// How files of blocks lie in memory, one behind the other.
 #[derive(Clone, Copy)]
@@ -24,6 +25,16 @@ impl Layout {
         Layout {
             files: files as u32,
             width,
+        }
+    }
+
+    /// Its sizes, as those of a reading side.
+    pub(crate) fn sizes(&self) -> Sizes
+        ensures { result ≡ record { files = self.now.files; width = self.now.width } }
+    {
+        Sizes {
+            files: self.files,
+            width: self.width,
         }
     }
 

@@ -7,7 +7,7 @@ ghost use Rattle.flat.specs.Full.{few_in, full_within};
 use crate::files::{Files, Lent};
 use blocks::BLOCK_BYTES;
 use faults::Fault;
-use lowers::{Reading, admit_block};
+use lowers::Reading;
 
 impl<B: Lent> Reading for Files<B> {
     ghost files = { λ s. s.layout.files };
@@ -28,7 +28,7 @@ impl<B: Lent> Reading for Files<B> {
         ensures meaning { CopiesOutIn (B.Lent.lent self.old.bytes) self.old.layout file block to.old result to.new (B.Lent.lent self.new.bytes) self.new.layout }
         ensures memory { self.new.bytes ≡ self.old.bytes }
     {
-        admit_block(self.layout.files, self.layout.width, file, block, to.len())?;
+        self.layout.sizes().admit_block(file, block, to.len())?;
         let at = self.layout.start(file, block);
         to.copy_from_slice(&self.bytes.bytes()[at..at + BLOCK_BYTES]);
         Ok(())

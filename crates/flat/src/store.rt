@@ -10,7 +10,7 @@ use crate::files::Files;
 use crate::layout::Layout;
 use blocks::BLOCK_BYTES;
 use faults::Fault;
-use lowers::{Lower, admit_block, admit_extent};
+use lowers::{Lower, Reading};
 
 /// A lower store in memory handed over.
 /// What does not fill a file, and what lies behind 65,536 files, is left alone.
@@ -34,13 +34,7 @@ impl<'a> Lower for FlatStore<'a> {
         ensures memory { self.new.bytes.now ≡ (if is_ok result then overlaid self.old.bytes.now (index_of self.old.layout.width file block * 4096) from.now else self.old.bytes.now) }
         ensures lender { self.new.bytes.ghost_name ≡ self.old.bytes.ghost_name }
     {
-        admit_block(
-            self.layout.files,
-            self.layout.width,
-            file,
-            block,
-            from.len(),
-        )?;
+        self.layout.sizes().admit_block(file, block, from.len())?;
         let at = self.layout.start(file, block);
         self.bytes[at..at + BLOCK_BYTES].copy_from_slice(from);
         Ok(())
@@ -51,7 +45,7 @@ impl<'a> Lower for FlatStore<'a> {
         ensures memory { self.new.bytes.now ≡ (if is_ok result then overlaid self.old.bytes.now (index_of self.old.layout.width file first * 4096) (replicate (n * 4096) 0) else self.old.bytes.now) }
         ensures lender { self.new.bytes.ghost_name ≡ self.old.bytes.ghost_name }
     {
-        admit_extent(self.layout.files, self.layout.width, file, first, n)?;
+        self.layout.sizes().admit_extent(file, first, n)?;
         let at = self.layout.start(file, first);
         self.bytes[at..at + n as usize * BLOCK_BYTES].fill(0);
         Ok(())

@@ -2,12 +2,15 @@
 
 #![tactic(auto)]
 
+mod sizes;
+
 ghost use Rattle.std.specs.Prelude.{◌≡◌, ℕ, ◌<◌, ◌≤◌, min, length};
 ghost use Rattle.blocks.specs.Blocks.{Contents, only, inside, zero_block};
-ghost use Rattle.lowers.specs.Lowers.{ground_of_block, ground_of_extent, block_answer, extent_answer, Holds, CopiesOut, Changes};
+ghost use Rattle.lowers.specs.Lowers.{block_answer, extent_answer, Holds, CopiesOut, Changes};
 
-use blocks::{BLOCK_BYTES, EXTENT_BLOCKS};
-use faults::{Fault, Ground, Layer};
+use blocks::BLOCK_BYTES;
+use faults::Fault;
+pub use sizes::Sizes;
 
 /// The bytes of so many files of so many blocks, to be read.
 ///
@@ -27,6 +30,16 @@ pub trait Reading {
     /// How many blocks each file has.
     fn width(&self) -> u32
         ensures { result ≡ width self.now };
+
+    /// Both at once.
+    final fn sizes(&self) -> Sizes
+        ensures { result ≡ record { files = files self.now; width = width self.now } }
+    {
+        Sizes {
+            files: self.files(),
+            width: self.width(),
+        }
+    }
 
     /// Copies a block out.
     fn read(&mut self, file: u32, block: u32, to: &mut [u8]) -> Result<(), Fault>
@@ -53,56 +66,6 @@ pub trait Lower: Reading {
         ensures { Changes (Self.Reading.files self.old) (Self.Reading.width self.old) (Self.Reading.bytes self.old) file (inside first n) (λ _. zero_block) (extent_answer (Self.Reading.files self.old) (Self.Reading.width self.old) file first n) result (Self.Reading.files self.new) (Self.Reading.width self.new) (Self.Reading.bytes self.new) };
 }
 
-/// Why a read or write of one block is refused, if it is, where there are so many files of so many blocks, with a buffer of so many bytes.
-pub fn block_ground(files: u32, width: u32, file: u32, block: u32, buffer: usize) -> Option<Ground>
-    ensures { result ≡ ground_of_block files width file block buffer }
-{
-    if file >= files {
-        Some(Ground::File)
-    } else if block >= width {
-        Some(Ground::Block)
-    } else if buffer != BLOCK_BYTES {
-        Some(Ground::Buffer)
-    } else {
-        None
-    }
-}
-
-/// Why a clear of the n blocks from the first on is refused, if it is, where there are so many files of so many blocks.
-pub fn extent_ground(files: u32, width: u32, file: u32, first: u32, n: u32) -> Option<Ground>
-    ensures { result ≡ ground_of_extent files width file first n }
-{
-    if file >= files {
-        Some(Ground::File)
-    } else if first >= width || n > width - first {
-        Some(Ground::Block)
-    } else if n == 0 || n > EXTENT_BLOCKS {
-        Some(Ground::Length)
-    } else {
-        None
-    }
-}
-
-/// Whether a read or write of one block is granted.
-pub fn admit_block(
-    files: u32,
-    width: u32,
-    file: u32,
-    block: u32,
-    buffer: usize,
-) -> Result<(), Fault>
-    ensures { result ≡ block_answer files width file block buffer }
-{
-    Layer::Lower.grant_unless(block_ground(files, width, file, block, buffer), file, block)
-}
-
-/// Whether a clear of the n blocks from the first on is granted.
-pub fn admit_extent(files: u32, width: u32, file: u32, first: u32, n: u32) -> Result<(), Fault>
-    ensures { result ≡ extent_answer files width file first n }
-{
-    Layer::Lower.grant_unless(extent_ground(files, width, file, first, n), file, first)
-}
-
 /// Copies a block from a reading side to a lower store; the file and the block have to be within both.
 pub fn carry<S: Reading, T: Lower>(
     source: &mut S,
@@ -116,7 +79,7 @@ pub fn carry<S: Reading, T: Lower>(
     let files = source.files().min(target.files());
     let width = source.width().min(target.width());
     let mut buffer = [0u8; BLOCK_BYTES];
-    admit_block(files, width, file, block, buffer.len())?;
+    Sizes { files, width }.admit_block(file, block, buffer.len())?;
     source.read(file, block, &mut buffer)?;
     target.write(file, block, &buffer)
 }

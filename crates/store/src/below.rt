@@ -8,7 +8,7 @@ ghost use Rattle.store.specs.Full.{shown_full};
 use crate::Store;
 use boards::Board;
 use faults::Fault;
-use lowers::{Lower, Reading, admit_block, admit_extent};
+use lowers::{Lower, Reading};
 use maps::Map;
 use stores::BlockStore;
 
@@ -35,13 +35,7 @@ impl<M: Map, B: Board, L: Lower> Reading for Store<M, B, L> {
     }
 
     fn read(&mut self, file: u32, block: u32, to: &mut [u8]) -> Result<(), Fault> {
-        admit_block(
-            self.lower.files(),
-            self.lower.width(),
-            file,
-            block,
-            to.len(),
-        )?;
+        self.lower.sizes().admit_block(file, block, to.len())?;
         // What is admitted, a store reads.
         let _ = <Store<_, _, _> as BlockStore>::read(self, file, block, to);
         Ok(())
@@ -51,13 +45,7 @@ impl<M: Map, B: Board, L: Lower> Reading for Store<M, B, L> {
 /// A store that is written to from above keeps what it can on its board.
 impl<M: Map, B: Board, L: Lower> Lower for Store<M, B, L> {
     fn write(&mut self, file: u32, block: u32, from: &[u8]) -> Result<(), Fault> {
-        admit_block(
-            self.lower.files(),
-            self.lower.width(),
-            file,
-            block,
-            from.len(),
-        )?;
+        self.lower.sizes().admit_block(file, block, from.len())?;
         if <Store<_, _, _> as BlockStore>::write(self, file, block, 1, from).is_err() {
             // Neither the board nor the key table is asked for room by a loose write.
             let _ = <Store<_, _, _> as BlockStore>::write(self, file, block, 0, from);
@@ -66,7 +54,7 @@ impl<M: Map, B: Board, L: Lower> Lower for Store<M, B, L> {
     }
 
     fn clear(&mut self, file: u32, first: u32, n: u32) -> Result<(), Fault> {
-        admit_extent(self.lower.files(), self.lower.width(), file, first, n)?;
+        self.lower.sizes().admit_extent(file, first, n)?;
         if <Store<_, _, _> as BlockStore>::clear(self, file, first, n).is_err() {
             // The key table has no room for what is left of a run that is cut: once the file is off the board, nothing is cut.
             let _ = self.demote(file);

@@ -4,14 +4,11 @@ use Rattle.std.proofs.lemmas.Bool.{cases_lt}
 use Rattle.extents.specs.Extents.{entry, IsKey, Barrier}
 use Rattle.blocks.specs.Blocks.{one, tally}
 use Rattle.blocks.specs.declared.Entry.{Entry}
-use Rattle.tables.specs.Holding.{Holding, lowest_row}
-use Rattle.tables.specs.declared.row.Row.{Row}
-use Rattle.tables.proofs.Lowest.{lowest_when_none, lowest_when_some}
-use Rattle.extents.proofs.Straights.{some-none}
+use Rattle.tables.specs.Holding.{Holding}
 use Rattle.blocks.proofs.Sums.{tally_change}
 use Rattle.key_rule.specs.Keyed.{Held, placing}
 use Rattle.key_rule.specs.Mends.{update, blend, none, Sought}
-use Rattle.key_rule.proofs.Tallies.{blend_out, blend_step, blend_skip}
+use Rattle.key_rule.proofs.Tallies.{blend_out, blend_step}
 use Rattle.key_rule.proofs.Looks.{held_key, held_is_key, held_within, key_long}
 use Rattle.key_rule.proofs.Runs.{no_key}
 
@@ -45,15 +42,6 @@ module _ (h : Holding) (v : Held h) (file l x s p d : ℕ) (lx : l ≤ x) (at : 
       sum : (u a o v n : ℕ) {k : ℕ} → u + o ≡ a + 0 → v ≡ u → o ≡ 1 → n + a ≡ k → (n + 1) + v ≡ k
       sum u a o v n c e z i = omega arith
 
--- no key at x, and none from there up to y
-pub skipped : (h : Holding) (file l x r y : ℕ) → l ≤ x → x + 1 ≤ y → None ≡ h file x → Sought (h file) (x + 1) r y
-    → blend file l y none h ≡ blend file l x none h
-skipped h file l x r y lx xy free s = blend_skip file l x y none h lx (omega arith) (λ b xb by. sym (at b xb by (cases_lt x b)))
-  where
-    at : (b : ℕ) → x ≤ b → b < y → (x < b) ⊎ (b ≤ x) → h file b ≡ None
-    at b xb by (inl o) = s.free b (omega arith) by
-    at b xb by (inr o) = let e : b ≡ x = omega arith in ap (h file) e ∙ sym free
-
 -- the same of the table as it has become
 pub same_beyond : (h g : Holding) (file l x b : ℕ) → g ≡ blend file l x none h → x ≤ b → g file b ≡ h file b
 same_beyond h g file l x b e xb = ap (λ (u : Holding). u file b) e ∙ blend_out file l x none h file b (inr (inr xb))
@@ -63,40 +51,3 @@ sought_back h g file l x z r y e xz zy s = record {
   free = λ b zb by. sym (same_beyond h g file l x b e (omega arith)) ∙ s.free b zb by;
   held = λ o none. s.held o (same_beyond h g file l x y e (omega arith) ∙ none);
 }
-
--- ---- the first key from a block on, by the question for the lowest
-
-module _ (h : Holding) (file x r : ℕ) where
-  from_here : (y : ℕ) → h file x ≡ None → ((b : ℕ) → x + 1 ≤ b → b < y → h file b ≡ None) → (b : ℕ) → x ≤ b → b < y → h file b ≡ None
-  from_here y free more b xb by = at (cases_lt x b)
-    where
-      at : (x < b) ⊎ (b ≤ x) → h file b ≡ None
-      at (inl o) = more b (omega arith) by
-      at (inr o) = let e : b ≡ x = omega arith in ap (h file) e ∙ free
-
-  pub sought_end : h file x ≡ None → None ≡ lowest_row h file (x + 1) → r ≤ 65536 → Sought (h file) x r r
-  sought_end free q top = record {
-    free = from_here r free (λ b xb br. lowest_when_none h file (x + 1) (sym q) b xb (omega arith));
-    held = λ o. absurd (omega arith);
-  }
-
-  pub sought_row : (w : Row) → x + 1 ≤ 65536 → h file x ≡ None → Some w ≡ lowest_row h file (x + 1) → Sought (h file) x r w.block
-  sought_row w top free q =
-      let low = lowest_when_some h file (x + 1) w top (sym q) in
-      record {
-        free = from_here w.block free low.before;
-        held = λ o none. some-none (h file w.block) w.entry low.there none;
-      }
-
-  pub sought_past : (w : Row) → x + 1 ≤ 65536 → h file x ≡ None → Some w ≡ lowest_row h file (x + 1) → ((x < w.block) × (r ≤ w.block)) ⊎ (w.block ≤ x) → Sought (h file) x r r
-  sought_past w top free q past =
-      let low = lowest_when_some h file (x + 1) w top (sym q) in
-      let least = low.least in
-      record {
-        free = from_here r free (λ b xb br. low.before b xb (beyond past b br least));
-        held = λ o. absurd (omega arith);
-      }
-    where
-      beyond : ((x < w.block) × (r ≤ w.block)) ⊎ (w.block ≤ x) → (b : ℕ) → b < r → x + 1 ≤ w.block → b < w.block
-      beyond (inl (_, o)) b br least = omega arith
-      beyond (inr o) b br least = absurd (omega arith)

@@ -86,9 +86,6 @@ module _ (m : FileMap) (l r p x s : ℕ) (st : Step m l r p x s) (file : ℕ) (h
       sum : (k a b c n : ℕ) → k ≡ a → a + 1 ≡ b → b ≤ c → c ≤ n → k < n
       sum k a b c n i j o q = omega arith
 
-pub count_on : (n k a b : ℕ) → n + k ≡ a → a + 1 ≡ b → (n + 1) + k ≡ b
-count_on n k a b p q = omega arith
-
 -- what a table holds after a put for which there was room
 pub stored : (h g : Holding) (n file block : ℕ) (e : Entry) (done : Bool) → done ≡ not (full h n file block)
     → g ≡ cond done (update h file block (Some e)) h → tally h < n → g ≡ update h file block (Some e)

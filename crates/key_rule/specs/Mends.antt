@@ -1,12 +1,11 @@
 -- How a table of exactly the keys is changed between two barriers.
-use Rattle.std.specs.Prelude.{◌≡◌, ℕ, ◌+◌, ◌-◌, ◌%◌, ◌<◌, ◌≤◌, Bool, cond, ◌&&◌, ◌⊎◌, Some, None, Option, ◌≢◌, nat_le, nat_lt}
+use Rattle.std.specs.Prelude.{◌≡◌, ℕ, ◌+◌, ◌-◌, ◌%◌, ◌<◌, ◌≤◌, Bool, ◌&&◌, ◌⊎◌, Some, None, Option, ◌≢◌, nat_le, nat_lt}
 use Rattle.blocks.specs.Blocks.{Placement, changed, only, tally}
 use Rattle.blocks.specs.declared.Entry.{Entry}
 use Rattle.extents.specs.declared.key.Key.{Key}
 use Rattle.extents.specs.Extents.{FileMap, KeyTable, IsKey, Barrier, Agree, key_at}
 use Rattle.extents.specs.Runs.{Run}
 use Rattle.tables.specs.Holding.{Holding}
-use Rattle.key_rule.specs.Keyed.{keyed, rule_of_keys}
 
 -- ---- changes of a table
 
@@ -81,10 +80,6 @@ pub record Mending (m n : Placement) (file l a p b q r : ℕ) : Type 0 where
   pub first : Lay (n file) l a p
   pub second : Lay (n file) b r q
   pub hole : (x : ℕ) → a ≤ x → x < b → n file x ≡ None
-
--- whether there was room for the keys of the new placement, and the table afterwards
-abbrev pub Mended : Holding → ℕ → Placement → Bool → Holding → Type 0
-Mended h room n done g = (done ≡ nat_le (rule_of_keys n) room) × (g ≡ cond done (keyed n) h)
 
 -- ---- where the mending begins and ends
 

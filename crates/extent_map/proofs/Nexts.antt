@@ -1,13 +1,14 @@
 -- The first key from a block on, found, dropped and counted.
-use Rattle.std.proofs.Common.{◌≡◌, ℕ, ◌+◌, ◌<◌, ◌≤◌, ◌⊎◌, Some, None, Option, sym, refl, ap, ◌∙◌, inl, inr, arith}
-use Rattle.std.proofs.lemmas.Bool.{cases_lt}
+use Rattle.std.proofs.Common.{◌≡◌, ℕ, ◌+◌, ◌<◌, ◌≤◌, Bool, true, false, nat_lt, ◌⊎◌, Some, None, Option, sym, refl, ap, ◌∙◌, inl, inr, arith}
+use Rattle.std.proofs.lemmas.Bool.{cases_lt, ltb-true, ltb-false}
+use Rattle.std.specs.Bool.{then_some}
 use Rattle.blocks.specs.Blocks.{tally}
 use Rattle.extents.specs.declared.key.Key.{Key}
-use Rattle.extents.specs.Extents.{Barrier}
+use Rattle.extents.specs.Extents.{Barrier, key}
 use Rattle.extents.proofs.Straights.{some-none}
 use Rattle.tables.specs.Holding.{Holding, lowest_row}
 use Rattle.tables.specs.declared.row.Row.{Row}
-use Rattle.tables.proofs.Lowest.{lowest_when_none, lowest_when_some}
+use Rattle.tables.proofs.Lowest.{Lowest, lowest_when_none, lowest_when_some}
 use Rattle.key_rule.specs.Keyed.{Held, placing}
 use Rattle.key_rule.specs.Mends.{update, blend, none, Sought}
 use Rattle.key_rule.proofs.Drops.{stops, gone, counts, same_beyond, sought_back}
@@ -32,20 +33,23 @@ module _ (h : Holding) (file x z r : ℕ) (free : (b : ℕ) → x ≤ b → b < 
   }
 
   module _ (w : Row) (top : z ≤ 65536) (q : Some w ≡ lowest_row h file z) where
-    pub next_row : x ≤ z → w.block < r
-        → (x ≤ w.block) × (w.block < r) × Sought (h file) x r w.block × (h file w.block ≡ Some w.entry)
-    next_row xz o =
-        let low = lowest_when_some h file z w top (sym q) in
-        let least = low.least in
-        (omega arith, o, record { free = from_here w.block low.before; held = λ p none. some-none (h file w.block) w.entry low.there none }, low.there)
+    -- the lowest key, if it starts below r
+    pub next_told : x ≤ z → Next (h file) x r (then_some (nat_lt w.block r) (key w.block w.entry.length w.entry.board))
+    next_told xz = at (nat_lt w.block r) refl
+      where
+        low : Lowest (h file) file z 65536 w
+        low = lowest_when_some h file z w top (sym q)
 
-    pub next_past : r ≤ w.block → Sought (h file) x r r
-    next_past o =
-        let low = lowest_when_some h file z w top (sym q) in
-        record {
-          free = from_here r (λ b zb br. low.before b zb (omega arith));
-          held = λ p. absurd (omega arith);
-        }
+        at : (t : Bool) → nat_lt w.block r ≡ t → Next (h file) x r (then_some t (key w.block w.entry.length w.entry.board))
+        at true e = (
+          omega (arith, low.least),
+          ltb-true w.block r e,
+          record { free = from_here w.block low.before; held = λ p none. some-none (h file w.block) w.entry low.there none },
+          low.there,
+        )
+        at false e =
+            let o = ltb-false w.block r e in
+            record { free = from_here r (λ b zb br. low.before b zb (omega arith)); held = λ p. absurd (omega arith) }
 
 -- ---- the keys of an interval one by one
 

@@ -7,6 +7,7 @@ ghost use Rattle.key_rule.specs.Mends.{Leftward, Rightward, LeftEdge, RightEdge}
 ghost use Rattle.maps.specs.Steps.{lowest_mapped_block};
 
 use crate::keys::FileKeys;
+use blocks::EXTENT_BLOCKS;
 use look_ups::Keys;
 use tables::table::Table;
 
@@ -31,7 +32,7 @@ impl<'a, T: Table> FileKeys<'a, T> {
         }
         let row = self.table.first_from(self.file, (first + 1) as u16)?;
         let start = u32::from(row.block);
-        if start < first + n { Some(start) } else { None }
+        (start < first + n).then_some(start)
     }
 
     /// Where the run begins that goes on into a block at a board number.
@@ -44,7 +45,7 @@ impl<'a, T: Table> FileKeys<'a, T> {
             block: first,
             board,
         };
-        while left.block % 4096 != 0 {
+        while left.block % EXTENT_BLOCKS != 0 {
             let Some(key) = self.key_over((left.block - 1) as u16) else {
                 return left;
             };
@@ -69,7 +70,7 @@ impl<'a, T: Table> FileKeys<'a, T> {
         ensures found { Rightward (placing (T.Table.holding self.now.table.now) self.now.file) end board result }
     {
         let mut right = Edge { block: end, board };
-        while right.block % 4096 != 0 {
+        while right.block % EXTENT_BLOCKS != 0 {
             let Some(entry) = self.key_at(right.block as u16) else {
                 return right.block;
             };

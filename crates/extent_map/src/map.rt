@@ -11,6 +11,7 @@ ghost use Rattle.key_rule.proofs.Mends.{rule_held};
 
 use crate::keys::FileKeys;
 use crate::runs::{Cut, Run, drop_keys, mend};
+use blocks::NUMBERS;
 use faults::{Fault, Ground, Layer};
 use look_ups::{Found, look_up};
 use maps::Map;
@@ -34,17 +35,24 @@ impl<T: Table> ExtentMap<T> {
         ExtentMap { table }
     }
 
+    /// One file's keys.
+    fn keys_of(&self, file: u16) -> FileKeys<'_, T>
+        ensures table { result.table.now ≡ self.now.table }
+        ensures file { result.file ≡ file }
+    {
+        FileKeys {
+            table: &self.table,
+            file,
+        }
+    }
+
     /// Looks a block up along its path, and tells how many keys were tried.
     pub fn find_counted(&self, file: u32, block: u32) -> Result<Found, Fault>
         ensures read { result ≡ counted_in (T.Table.holding self.now.table) file block }
         ensures answer { result ≡ counted_answer (placing (T.Table.holding self.now.table)) file block }
     {
         let (file, block) = Layer::Map.narrow(file, block)?;
-        let keys = FileKeys {
-            table: &self.table,
-            file,
-        };
-        Ok(look_up(&keys, block))
+        Ok(look_up(&self.keys_of(file), block))
     }
 
     /// How many keys are held: as many as the map calls for, since the table holds exactly the keys of each file's map.
@@ -80,19 +88,12 @@ impl<T: Table> Map for ExtentMap<T> {
 
     fn next(&mut self, file: u32, block: u32) -> Result<Option<u32>, Fault> {
         let (file, _) = Layer::Map.narrow(file, block)?;
-        let keys = FileKeys {
-            table: &self.table,
-            file,
-        };
-        Ok(keys.lowest_mapped(block, 65536 - block))
+        Ok(self.keys_of(file).lowest_mapped(block, NUMBERS - block))
     }
 
     fn assign(&mut self, file: u32, first: u32, n: u32, board: u32) -> Result<(), Fault> {
         let extent = Extent::on_board(file, first, n, board)?;
-        let keys = FileKeys {
-            table: &self.table,
-            file: extent.file,
-        };
+        let keys = self.keys_of(extent.file);
         if let Some(block) = keys.lowest_mapped(first, n) {
             return Err(Layer::Map.refusal(Ground::Mapped, file, block));
         }
@@ -110,17 +111,13 @@ impl<T: Table> Map for ExtentMap<T> {
                 board: 0,
             },
         };
-        mend(&mut self.table, extent.file, cut).map_err(|ground| Layer::Map.refusal(
-            ground, file, first,
-        ))
+        let refused = |ground: Ground| Layer::Map.refusal(ground, file, first);
+        mend(&mut self.table, extent.file, cut).map_err(refused)
     }
 
     fn clear(&mut self, file: u32, first: u32, n: u32) -> Result<(), Fault> {
         let extent = Extent::named(file, first, n)?;
-        let keys = FileKeys {
-            table: &self.table,
-            file: extent.file,
-        };
+        let keys = self.keys_of(extent.file);
         let left = keys.left_edge(first);
         let right = keys.right_edge(first + n);
         let cut = Cut {
@@ -135,14 +132,13 @@ impl<T: Table> Map for ExtentMap<T> {
                 board: right.board,
             },
         };
-        mend(&mut self.table, extent.file, cut).map_err(|ground| Layer::Map.refusal(
-            ground, file, first,
-        ))
+        let refused = |ground: Ground| Layer::Map.refusal(ground, file, first);
+        mend(&mut self.table, extent.file, cut).map_err(refused)
     }
 
     fn forget(&mut self, file: u32) -> Result<(), Fault> {
         let (file, _) = Layer::Map.narrow(file, 0)?;
-        drop_keys(&mut self.table, file, 0, 65536);
+        drop_keys(&mut self.table, file, 0, NUMBERS);
         Ok(())
     }
 

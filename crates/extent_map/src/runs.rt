@@ -86,11 +86,7 @@ fn next_key<T: Table>(table: &T, file: u16, from: u32, end: u32) -> Option<Key>
         return None;
     }
     let row = table.first_from(file, far as u16)?;
-    if u32::from(row.block) < end {
-        Some(key_of(row.block, row.entry))
-    } else {
-        None
-    }
+    (u32::from(row.block) < end).then_some(key_of(row.block, row.entry))
 }
 
 /// Drops the keys of a file from l up to r.

@@ -1,7 +1,7 @@
 use Rattle.std.proofs.Common.{sym, arith}
 use Rattle.key_rule.specs.Keyed.{placing}
-use Rattle.key_rule.proofs.Edges.{lowest_here, lowest_key, lowest_past, lowest_end, lowest_one}
-use Rattle.extent_map.proofs.Covers.{mapped_under, unmapped_under}
+use Rattle.key_rule.proofs.Edges.{lowest_here, lowest_end, lowest_one}
+use Rattle.extent_map.proofs.Covers.{mapped_under, unmapped_under, lowest_told}
 use Rattle.extent_map.proofs.keys.FileKeys.lowest_mapped.Goals as goal
 
 pub returns-then-is_some : goal.returns-then-is_some
@@ -22,16 +22,8 @@ returns-in_err-row g c =
     let hole = unmapped_under _ c.args.self.now.held c.args.self.now.file c.args.first c.key_over.result c.if-is_some.ensures (e.sane, e.found) in
     rw c.from_residual.ensures (lowest_end _ c.args.self.now.held c.args.self.now.file c.args.first c.args.n hole c.in_err-row.ensures c.requires.1)
 
-pub returns-then-start-first : goal.returns-then-start-first
-returns-then-start-first g c =
+pub returns : goal.returns
+returns g c =
     let e = c.key_over.ensures in
     let hole = unmapped_under _ c.args.self.now.held c.args.self.now.file c.args.first c.key_over.result c.if-is_some.ensures (e.sane, e.found) in
-    rw c.from-start.ensures (lowest_key _ c.args.self.now.held c.args.self.now.file c.args.first c.args.n hole c.in_ok-row.row c.in_ok-row.ensures (omega arith)
-    (rw c.from-start.ensures at c.if-start-first.true))
-
-pub returns-else-start-first : goal.returns-else-start-first
-returns-else-start-first g c =
-    let e = c.key_over.ensures in
-    let hole = unmapped_under _ c.args.self.now.held c.args.self.now.file c.args.first c.key_over.result c.if-is_some.ensures (e.sane, e.found) in
-    lowest_past _ c.args.self.now.held c.args.self.now.file c.args.first c.args.n hole c.in_ok-row.row c.in_ok-row.ensures (omega arith)
-    (rw c.from-start.ensures at c.if-start-first.false)
+    rw (c.then_some.ensures, c.from-start.ensures) (lowest_told _ c.args.self.now.held c.args.self.now.file c.args.first c.args.n hole c.in_ok-row.row c.in_ok-row.ensures (omega arith))

@@ -1,5 +1,4 @@
-use Rattle.std.proofs.Common.{sym, arith}
-use Rattle.key_rule.specs.Keyed.{placing}
+use Rattle.std.proofs.Common.{arith}
 use Rattle.key_rule.proofs.Edges.{lowest_here, lowest_end, lowest_one}
 use Rattle.extent_map.proofs.Covers.{mapped_under, unmapped_under, lowest_told}
 use Rattle.extent_map.proofs.keys.FileKeys.lowest_mapped.Goals as goal

@@ -45,6 +45,7 @@ impl<'a, T: Table> FileKeys<'a, T> {
             block: first,
             board,
         };
+        // each step passes a whole key, so no range of blocks gives the steps
         while left.block % EXTENT_BLOCKS != 0 {
             let Some(key) = self.key_over((left.block - 1) as u16) else {
                 return left;
@@ -70,6 +71,7 @@ impl<'a, T: Table> FileKeys<'a, T> {
         ensures found { Rightward (placing (T.Table.holding self.now.table.now) self.now.file) end board result }
     {
         let mut right = Edge { block: end, board };
+        // each step passes a whole key, so no range of blocks gives the steps
         while right.block % EXTENT_BLOCKS != 0 {
             let Some(entry) = self.key_at(right.block as u16) else {
                 return right.block;

@@ -78,8 +78,9 @@ fn next_key<T: Table>(table: &T, file: u16, from: u32, end: u32) -> Option<Key>
 {
     let far = end.min(from + 2);
     for block in from..far {
-        if let Some(entry) = table.find(file, block as u16) {
-            return Some(key_of(block as u16, entry));
+        let start = block as u16;
+        if let Some(entry) = table.find(file, start) {
+            return Some(key_of(start, entry));
         }
     }
     if far == end {
@@ -98,6 +99,7 @@ pub fn drop_keys<T: Table>(table: &mut T, file: u16, l: u32, r: u32)
     ensures after { T.Table.holding table.new ≡ blend file l r none (T.Table.holding table.old) }
 {
     let mut x = l;
+    // the table changes at each step, so no iterator can hold it
     while let Some(key) = next_key(table, file, x, r) {
         let _ = table.remove(file, key.start);
         x = end_of(key);
@@ -113,6 +115,7 @@ impl<'a, T: Table> FileKeys<'a, T> {
     {
         let mut x = l;
         let mut count = 0;
+        // the same walk as drop_keys': an iterator for this one count would be longer
         while let Some(key) = next_key(self.table, self.file, x, r) {
             count += 1;
             x = end_of(key);

@@ -6,10 +6,8 @@ use std::alloc::{AllocError, Global};
 /// The files that the model has, the last one among them; blocks run from 0 to 65,535.
 pub const FILES: [u32; 3] = [0, 1, 65535];
 
-/// What a block without a board number has in the row.
-const HOLE: u32 = 65535;
-
 /// How a map counts its keys.
+/// (An enum and no closure: a model keeps its rule from call to call.)
 #[derive(Clone, Copy)]
 pub enum Rule {
     /// one for each mapped block
@@ -20,7 +18,7 @@ pub enum Rule {
 
 #[derive(Drop)]
 pub struct Model {
-    boards: Vec<u32>,
+    boards: Vec<Option<u32>>,
     rule: Rule,
     room: u32,
 }
@@ -28,66 +26,56 @@ pub struct Model {
 impl Model {
     pub fn new(heap: Global, rule: Rule, room: u32) -> Result<Model, AllocError> {
         Ok(Model {
-            boards: vec![in heap; HOLE; 196608]?,
+            boards: vec![in heap; None; 196608]?,
             rule,
             room,
         })
     }
 
     pub fn at(&self, file: u32, block: u32) -> Option<u32> {
-        let place = place_of(file, block);
-        match self.boards.get(place).copied() {
-            Some(HOLE) => None,
-            other => other,
+        self.boards.get(place_of(file, block)?).copied().flatten()
+    }
+
+    fn put(&mut self, file: u32, block: u32, board: Option<u32>) {
+        if let Some(place) = place_of(file, block) {
+            if place < self.boards.len() {
+                self.boards[place] = board;
+            }
         }
     }
 
-    fn put(&mut self, file: u32, block: u32, board: u32) {
-        let place = place_of(file, block);
-        if place < self.boards.len() {
-            self.boards[place] = board;
+    /// Takes the n blocks of a file from `first` on out.
+    fn take_out(&mut self, file: u32, first: u32, n: u32) {
+        for block in first..first.saturating_add(n) {
+            self.put(file, block, None);
         }
     }
 
     /// The lowest mapped block of a file, of the n from `first` on.
     pub fn lowest(&self, file: u32, first: u32, n: u32) -> Option<u32> {
-        for i in 0..n {
-            let block = first.saturating_add(i);
-            if self.at(file, block).is_some() {
-                return Some(block);
-            }
-        }
-        None
+        (first..first.saturating_add(n)).find(|block| self.at(file, *block).is_some())
     }
 
     /// How many keys the map calls for.
     pub fn keys(&self) -> u32 {
-        let mut sum: u32 = 0;
-        for file in FILES {
-            sum = sum.saturating_add(match self.rule {
-                Rule::Blocks => self.mapped(file),
-                Rule::Extents => self.extents(file),
-            });
-        }
-        sum
+        FILES.iter().fold(0, |sum: u32, file| {
+            sum.saturating_add(match self.rule {
+                Rule::Blocks => self.mapped(*file),
+                Rule::Extents => self.extents(*file),
+            })
+        })
     }
 
     fn mapped(&self, file: u32) -> u32 {
-        let mut sum: u32 = 0;
-        for block in 0..65536 {
-            if self.at(file, block).is_some() {
-                sum = sum.saturating_add(1);
-            }
-        }
-        sum
+        (0..65536)
+            .filter(|block| self.at(file, *block).is_some())
+            .fold(0, |sum: u32, _| sum.saturating_add(1))
     }
 
     fn extents(&self, file: u32) -> u32 {
-        let mut keys: u32 = 0;
-        for window in 0..16 {
-            keys = keys.saturating_add(self.keys_in(file, 4096 * window, 4096));
-        }
-        keys
+        (0..16).fold(0, |keys: u32, window: u32| {
+            keys.saturating_add(self.keys_in(file, window.saturating_mul(4096), 4096))
+        })
     }
 
     /// The keys in an aligned extent: one if it is straight, none if nothing in it is mapped, else those of its halves.
@@ -107,12 +95,9 @@ impl Model {
         let Some(board) = self.at(file, start) else {
             return false;
         };
-        for i in 1..length {
-            if self.at(file, start.saturating_add(i)) != Some(board.saturating_add(i)) {
-                return false;
-            }
-        }
-        true
+        (start..start.saturating_add(length))
+            .zip(board..board.saturating_add(length))
+            .all(|(block, number)| self.at(file, block) == Some(number))
     }
 
     pub fn assign(&mut self, file: u32, first: u32, n: u32, board: u32) -> Result<(), Fault> {
@@ -123,13 +108,13 @@ impl Model {
         if let Some(block) = self.lowest(file, first, n) {
             return refuse(Ground::Mapped, file, block);
         }
-        for i in 0..n {
-            self.put(file, first.saturating_add(i), board.saturating_add(i));
+        for (block, number) in (first..first.saturating_add(n)).zip(
+            board..board.saturating_add(n),
+        ) {
+            self.put(file, block, Some(number));
         }
         if self.keys() > self.room {
-            for i in 0..n {
-                self.put(file, first.saturating_add(i), HOLE);
-            }
+            self.take_out(file, first, n);
             return refuse(Ground::TooManyKeys, file, first);
         }
         Ok(())
@@ -145,16 +130,15 @@ impl Model {
         if let Err(fault) = admit(file, first, n) {
             return Ok(Err(fault));
         }
+        let end = first.saturating_add(n);
         let mut before = Vec::new(heap);
-        for i in 0..n {
-            before.push(self.at(file, first.saturating_add(i)).unwrap_or(HOLE))?;
-            self.put(file, first.saturating_add(i), HOLE);
+        for block in first..end {
+            before.push(self.at(file, block))?;
         }
+        self.take_out(file, first, n);
         if self.keys() > self.room {
-            let mut i = 0;
-            for board in before.as_slice() {
-                self.put(file, first.saturating_add(i), *board);
-                i = i.saturating_add(1);
+            for (block, board) in (first..end).zip(before.as_slice()) {
+                self.put(file, block, *board);
             }
             return Ok(refuse(Ground::TooManyKeys, file, first));
         }
@@ -165,32 +149,25 @@ impl Model {
         if file > 65535 {
             return refuse(Ground::File, file, 0);
         }
-        for block in 0..65536 {
-            self.put(file, block, HOLE);
-        }
+        self.take_out(file, 0, 65536);
         Ok(())
     }
 }
 
-fn place_of(file: u32, block: u32) -> usize {
+fn place_of(file: u32, block: u32) -> Option<usize> {
     if block > 65535 {
-        return usize::MAX;
+        return None;
     }
     match file {
-        0 => block as usize,
-        1 => 65536 + block as usize,
-        65535 => 131072 + block as usize,
-        _ => usize::MAX,
+        0 => Some(block as usize),
+        1 => Some(65536 + block as usize),
+        65535 => Some(131072 + block as usize),
+        _ => None,
     }
 }
 
 fn refuse(ground: Ground, file: u32, block: u32) -> Result<(), Fault> {
-    Err(Fault {
-        ground,
-        layer: Layer::Map,
-        file,
-        block,
-    })
+    Err(Layer::Map.refusal(ground, file, block))
 }
 
 fn admit(file: u32, first: u32, n: u32) -> Result<(), Fault> {

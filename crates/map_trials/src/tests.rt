@@ -16,6 +16,9 @@ use std::test::Fail;
 use tables::spread::{Level, Mixing};
 use tables::table::Table;
 
+/// How many calls a trial makes.
+const CALLS: u32 = 120;
+
 /// Numbers that look random, the same at every run.
 #[derive(Clone, Copy)]
 struct Dice {
@@ -100,8 +103,8 @@ fn compare<M: Map>(
     near: u32,
 ) -> Result<(), Fail> {
     for file in FILES {
-        for i in 0..40u32 {
-            let block = near.saturating_add(i).saturating_sub(20) % 65536;
+        for ahead in near..near.saturating_add(40) {
+            let block = ahead.saturating_sub(20) % 65536;
             assert_eq!(rt; map.find(file, block)?, model.at(file, block));
             let block = dice.roll(65536);
             assert_eq!(rt; map.find(file, block)?, model.at(file, block));
@@ -125,17 +128,18 @@ fn compare_all<M: Map>(rt: &impl Abort, map: &mut M, model: &Model) -> Result<()
     Ok(())
 }
 
-/// Makes so many random calls on a map and on the model beside it, and compares what they answer and hold.
+/// Makes random calls on a map and on a model beside it, with this rule and room, and compares what they answer and hold.
 fn run<M: Map>(
     rt: &impl Abort,
     heap: Global,
     map: &mut M,
-    model: &mut Model,
+    rule: Rule,
+    room: u32,
     seed: u64,
-    calls: u32,
-) -> Result<(), Fail> {
+) -> Result<Model, Fail> {
+    let mut model = Model::new(heap, rule, room)?;
     let mut dice = Dice { state: seed };
-    for _ in 0..calls {
+    for _ in 0..CALLS {
         let near = match next_call(&mut dice) {
             Call::Assign(file, first, n, board) => {
                 assert_eq!(rt;
@@ -156,9 +160,10 @@ fn run<M: Map>(
                 0
             }
         };
-        compare(rt, map, model, &mut dice, near)?;
+        compare(rt, map, &model, &mut dice, near)?;
     }
-    compare_all(rt, map, model)
+    compare_all(rt, map, &model)?;
+    Ok(model)
 }
 
 /// An extent map over a table, with as many keys held in the end as the model counts.
@@ -170,8 +175,7 @@ fn extents<T: Table + Drop>(
     seed: u64,
 ) -> Result<(), Fail> {
     let mut map = ExtentMap::new(table);
-    let mut model = Model::new(heap, Rule::Extents, room)?;
-    run(rt, heap, &mut map, &mut model, seed, 120)?;
+    let model = run(rt, heap, &mut map, Rule::Extents, room, seed)?;
     assert_eq!(rt; map.keys_held(), model.keys());
     Ok(())
 }
@@ -184,8 +188,8 @@ fn single_blocks<T: Table + Drop>(
     seed: u64,
 ) -> Result<(), Fail> {
     let mut map = BlockMap::new(table);
-    let mut model = Model::new(heap, Rule::Blocks, room)?;
-    run(rt, heap, &mut map, &mut model, seed, 120)
+    run(rt, heap, &mut map, Rule::Blocks, room, seed)?;
+    Ok(())
 }
 
 fn cached<M: Map + Drop>(
@@ -197,8 +201,8 @@ fn cached<M: Map + Drop>(
     seed: u64,
 ) -> Result<(), Fail> {
     let mut map = CachedMap::new(map);
-    let mut model = Model::new(heap, rule, room)?;
-    run(rt, heap, &mut map, &mut model, seed, 120)
+    run(rt, heap, &mut map, rule, room, seed)?;
+    Ok(())
 }
 
 #[test]

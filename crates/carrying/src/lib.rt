@@ -42,6 +42,7 @@ pub fn carry_all<S: Reading, T: Lower>(source: &mut S, target: &mut T) -> Summar
     let width = source.width();
     let mut carried = 0;
     let mut refused = 0;
+    // A loop and no chain: its step changes both sides.
     for file in 0..source.files() {
         let blocks = carry_file(source, target, file, width);
         carried += u64::from(blocks);
@@ -58,6 +59,7 @@ pub fn bytes_differing(left: &[u8], right: &[u8]) -> usize
 }
 
 /// How many pairs of bytes at the same place are of two that differ.
+/// (A function of its own: by its clause a caller knows what the chain counts.)
 fn pairs_differing(left: &[u8], right: &[u8]) -> usize
     ensures { result ≡ count_by (λ p. not (p.0 == p.1)) (zip left.now right.now) }
 {

@@ -93,7 +93,7 @@ impl Slots {
         if from >= n {
             return Probe::Full;
         }
-        // The contract measures how far a slot lies from the first, and that is k: two ranges in a chain would lose it.
+        // By a chain of two ranges, from..n and 0..from, a look-up takes a tenth more instructions.
         for k in 0..n {
             let place = onward(n, from, k);
             let Some(row) = self.slots[place].row else {

@@ -58,7 +58,7 @@ fn close<S: Spread>(slots: &mut Slots, spread: &S, room: u32, start: usize)
 {
     let n = slots.len();
     let mut hole = start;
-    // As in a search, k is how far the slot lies from the first.
+    // As in a search, a chain of two ranges takes more instructions.
     for k in 1..n {
         let place = onward(n, start, k);
         let Some(row) = slots.slot(place).row else {

@@ -3,7 +3,7 @@ use Rattle.std.proofs.Common.{◌≡◌, ℕ, ◌+◌, ◌-◌, ◌<◌, ◌≤�
 use mathlib.Core.Path.{fun_ext}
 use mathlib.Core.Logic.{∥∥₁_map}
 use Rattle.std.proofs.lemmas.Grind.{merely, not_there}
-use Rattle.std.proofs.lemmas.Bool.{cases_eq, cases_lt, cases_order, both_ways, cond-true, cond-false, eq-eqb, ne_eqb}
+use Rattle.std.proofs.lemmas.Bool.{cases_eq, cases_order, both_ways, cond-true, cond-false, eq-eqb, ne_eqb}
 use Rattle.blocks.specs.declared.Entry.{Entry}
 use Rattle.blocks.specs.Blocks.{changed, only, one}
 use Rattle.blocks.proofs.Sums.{tally_none}
@@ -12,9 +12,8 @@ use Rattle.tables.specs.Holding.{nothing, full, lowest_row}
 use Rattle.tables.proofs.Lowest.{lowest_none, lowest_some}
 use Rattle.tables.proofs.Looks.{first_set, changed_by, tally_by, numbered_by, room_old, room_new, no_room}
 use Rattle.probing.specs.declared.slots.Slot.{Slot}
-use Rattle.probing.specs.declared.slots.Probe.{Probe}
 use Rattle.probing.specs.declared.slots.Probe.TheVariants.{Found, Free, Full}
-use Rattle.probing.specs.Slots.{free, used, row_in, slot_at, Used, tells, look, occupied, Has, dist, Probed, Within, Best, home_of, Passes, Single, Reached, Ages, Sound, Closed}
+use Rattle.probing.specs.Slots.{free, used, row_in, slot_at, Used, tells, look, occupied, Has, dist, Probed, Best, home_of, Passes, Single, Reached, Ages, Sound, Closed}
 use Rattle.probing.proofs.Distances.{dist_inj}
 use Rattle.probing.specs.SlotLaws.{tells_other, used_within, look_found, look_none, occupied_set, bit_used, bit_free, occupied_all, occupied_free, occupied_none, at_same, at_other, use_of, has_of, set_single, fill_after}
 
@@ -23,19 +22,6 @@ pub single_of : (home : ℕ → ℕ → ℕ) (n : ℕ) (xs : List Slot) → ∥ 
 single_of home n xs t i j u v h = elim (cases_eq i j) [ inl e ↦ e | inr k ↦ absurd (not_there t (λ a. k (a.reached.single i j u v h))) ]
 
 -- ---- a search
-
--- What a search from the key's home tells of a table with n slots.
-pub probe_of : (home : ℕ → ℕ → ℕ) (n m : ℕ) (xs : List Slot) (from f b : ℕ) (r : Probe) → m ≡ n → from ≡ home f b → (0 < n → home f b < n)
-    → (from < m → Probed m xs from f b r) → Within m r → Probed n xs (home f b) f b r
-probe_of home n m xs from f b r len e below pr w = elim (cases_lt 0 n) [
-  | inl l ↦ subst (λ (k : ℕ). Probed k xs (home f b) f b r) len (subst (λ (h : ℕ). Probed m xs h f b r) e (pr (omega (arith, below l))))
-  | inr l ↦ none r l w
-]
-  where
-    none : (r : Probe) → n ≤ 0 → Within m r → Probed n xs (home f b) f b r
-    none (Found i) l w = absurd (omega arith)
-    none (Free i) l w = absurd (omega arith)
-    none Full l w = λ x k. absurd (omega arith)
 
 -- A key that a search does not find is not there.
 pub absent_free : (home : ℕ → ℕ → ℕ) (n : ℕ) (xs : List Slot) (held f b i : ℕ) → home f b < n → Sound home n xs held

@@ -154,6 +154,7 @@ impl<L: Board, R: Board> Board for JoinedBoard<L, R> {
         ensures meaning { ReadsBlock (joined_size (L.Board.size self.old.left) (R.Board.size self.old.right)) (joined_block (L.Board.size self.old.left) (L.Board.block self.old.left) (R.Board.size self.old.right) (R.Board.block self.old.right)) number to.old result to.new (joined_size (L.Board.size self.new.left) (R.Board.size self.new.right)) (joined_block (L.Board.size self.new.left) (L.Board.block self.new.left) (R.Board.size self.new.right) (R.Board.block self.new.right)) }
         ensures parts { LeavesParts (L.Board.size self.old.left) (L.Board.block self.old.left) (R.Board.size self.old.right) (R.Board.block self.old.right) (L.Board.size self.new.left) (L.Board.block self.new.left) (R.Board.size self.new.right) (R.Board.block self.new.right) }
     {
+        // Which board has the number is told here and in `write` alike: a step that both lend their board to would be longer.
         admit(self.blocks(), number, to.len())?;
         let left = self.left.blocks();
         if number < left {

@@ -54,7 +54,7 @@ impl From<AllocError> for ConsoleError {
     }
 }
 
-/// Why a text of so many bytes is refused, with an output of so many bytes.
+/// Why a text of so many bytes is refused, if it is, with an output of so many bytes: the ground alone, of which the layer makes its answer.
 fn console_ground(input: usize, output: usize) -> Option<Ground>
     ensures { result ≡ ground_of_console input output }
 {

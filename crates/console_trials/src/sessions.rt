@@ -55,7 +55,7 @@ fn is_refused(rt: &impl Abort, heap: Global, input: &[u8], room: usize) -> Resul
 /// A text so many times over.
 fn repeated(heap: Global, text: &[u8], times: u32) -> Result<Vec<u8>, AllocError> {
     let mut all = Vec::new(heap);
-    for i in 0..times {
+    for _ in 0..times {
         all.extend_from_slice(text)?;
     }
     Ok(all)

@@ -3,6 +3,8 @@
 ghost use Rattle.std.specs.Prelude.{◌+◌, ◌<◌, ◌≤◌};
 
 /// The n blocks of a file from `first` on, within the numbers of a map.
+///
+/// A call brings bare numbers, since what is no extent has to reach the map to be refused.
 #[derive(Clone, Copy)]
 pub struct Extent {
     pub file: u16,

@@ -38,6 +38,9 @@ fn serve_end<M: Map, B: Board, L: Lower>(
 /// Makes two new stores, the club's and the server's, over whatever parts each has; runs each end's own requests, then the later ones on both,
 /// and hands the stores back.
 ///
+/// The lists stand beside the parts, and not with them in a struct for each end: what a call leaves behind a reference that came in a struct
+/// has no name in a contract but its place.
+///
 /// What comes is true to the book at each end. And if the two were alike once their own requests had run, and the later requests ask the same
 /// of both, then they tell the same and are alike again.
 pub fn compare<M: Map, B: Board, L: Lower, N: Map, C: Board, K: Lower>(

@@ -18,7 +18,7 @@ pub struct Request {
     pub answer: Answer,
 }
 
-/// Makes a call of a store, with a buffer.
+/// Makes a call of a store, with a buffer. A call is a value that lists hold, so it is told apart here which one it is.
 pub fn serve<S: BlockStore>(store: &mut S, call: Call, buffer: &mut [u8]) -> Answer
     ensures shape { S.BlockStore.shape store.new ≡ S.BlockStore.shape store.old }
     ensures answer { result ≡ answer_to (S.BlockStore.shape store.old) (S.BlockStore.state store.old) call buffer.old }

@@ -329,7 +329,7 @@ mod tests {
         })
     }
 
-    // The next number of a simple row of random ones.
+    // The next number of a simple row of random ones. The trials of the maps have another row: each keeps its numbers.
     fn random(x: &mut u32) -> u32 {
         *x = x.wrapping_mul(1664525).wrapping_add(1013904223);
         *x / 65536

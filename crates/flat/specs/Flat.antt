@@ -4,7 +4,7 @@ use Rattle.blocks.specs.Blocks.{Contents}
 use Rattle.memory.specs.Memory.{block_at}
 use Rattle.faults.specs.declared.Fault.{Fault}
 use Rattle.lowers.specs.Lowers.{CopiesOut, Changes}
-use Rattle.flat.specs.declared.layout.Layout.{Layout}
+use Rattle.lowers.specs.declared.sizes.Sizes.{Sizes}
 
 -- the blocks of a file: as many as given, and none where more than 65,536 are given
 abbrev pub width_of : ℕ → ℕ
@@ -28,13 +28,13 @@ pub record Laid (memory : List ℕ) (files width : ℕ) : Type 0 where
   pub narrow : width ≤ 65536
 
 -- What a read of files in memory answers and leaves.
-abbrev pub CopiesOutIn : List ℕ → Layout → ℕ → ℕ → List ℕ → Result (Unit {0}) Fault → List ℕ → List ℕ → Layout → Type 0
-CopiesOutIn memory layout file block buffer answer buffer_after memory_after layout_after =
-    CopiesOut layout.files layout.width (bytes_in memory layout.files layout.width) file block buffer answer buffer_after
-    layout_after.files layout_after.width (bytes_in memory_after layout_after.files layout_after.width)
+abbrev pub CopiesOutIn : List ℕ → Sizes → ℕ → ℕ → List ℕ → Result (Unit {0}) Fault → List ℕ → List ℕ → Sizes → Type 0
+CopiesOutIn memory sizes file block buffer answer buffer_after memory_after sizes_after =
+    CopiesOut sizes.files sizes.width (bytes_in memory sizes.files sizes.width) file block buffer answer buffer_after
+    sizes_after.files sizes_after.width (bytes_in memory_after sizes_after.files sizes_after.width)
 
 -- What a call that changes some blocks of a file in memory answers and leaves.
-abbrev pub ChangesIn : List ℕ → Layout → ℕ → (ℕ → Bool) → (ℕ → List ℕ) → Result (Unit {0}) Fault → Result (Unit {0}) Fault → List ℕ → Layout → Type 0
-ChangesIn memory layout file chosen new due answer memory_after layout_after =
-    Changes layout.files layout.width (bytes_in memory layout.files layout.width) file chosen new due answer
-    layout_after.files layout_after.width (bytes_in memory_after layout_after.files layout_after.width)
+abbrev pub ChangesIn : List ℕ → Sizes → ℕ → (ℕ → Bool) → (ℕ → List ℕ) → Result (Unit {0}) Fault → Result (Unit {0}) Fault → List ℕ → Sizes → Type 0
+ChangesIn memory sizes file chosen new due answer memory_after sizes_after =
+    Changes sizes.files sizes.width (bytes_in memory sizes.files sizes.width) file chosen new due answer
+    sizes_after.files sizes_after.width (bytes_in memory_after sizes_after.files sizes_after.width)

@@ -9,17 +9,17 @@ use Rattle.flat.proofs.store.FlatStoreLower.clear.Goals as goal
 pub slice_bounds-fill-end : goal.slice_bounds-fill-end
 slice_bounds-fill-end c =
     let self = c.args.self.now in
-    let lf : c.args.file < self.layout.files = search rules in
+    let lf : c.args.file < self.sizes.files = search rules in
     let l0 : 0 < c.args.n = search rules in
-    let ln : c.args.first + c.args.n ≤ self.layout.width = search rules in
-    omega (arith, extent_within self.bytes.now self.layout.files self.layout.width self.laid c.args.file c.args.first c.args.n lf l0 ln)
+    let ln : c.args.first + c.args.n ≤ self.sizes.width = search rules in
+    omega (arith, extent_within self.bytes.now self.sizes.files self.sizes.width self.laid c.args.file c.args.first c.args.n lf l0 ln)
 
 pub returns-clause-meaning : goal.returns-clause-meaning
 returns-clause-meaning c =
     let self = c.args.self.now in
     let memory = self.bytes.now in
-    let files = self.layout.files in
-    let width = self.layout.width in
+    let files = self.sizes.files in
+    let width = self.sizes.width in
     let file = c.args.file in
     let first = c.args.first in
     let n = c.args.n in

@@ -9,16 +9,16 @@ use Rattle.flat.proofs.store.FlatStoreLower.write.Goals as goal
 pub slice_bounds-copy_from_slice-end : goal.slice_bounds-copy_from_slice-end
 slice_bounds-copy_from_slice-end c =
     let self = c.args.self.now in
-    let lf : c.args.file < self.layout.files = search rules in
-    let lb : c.args.block < self.layout.width = search rules in
-    omega (arith, extent_within self.bytes.now self.layout.files self.layout.width self.laid c.args.file c.args.block 1 lf (omega arith) (omega arith))
+    let lf : c.args.file < self.sizes.files = search rules in
+    let lb : c.args.block < self.sizes.width = search rules in
+    omega (arith, extent_within self.bytes.now self.sizes.files self.sizes.width self.laid c.args.file c.args.block 1 lf (omega arith) (omega arith))
 
 pub returns-clause-meaning : goal.returns-clause-meaning
 returns-clause-meaning c =
     let self = c.args.self.now in
     let memory = self.bytes.now in
-    let files = self.layout.files in
-    let width = self.layout.width in
+    let files = self.sizes.files in
+    let width = self.sizes.width in
     let new = c.args.from.now in
     let file = c.args.file in
     let block = c.args.block in

@@ -31,7 +31,7 @@ impl<'a, T: Table> Keys for FileKeys<'a, T> {
 fn covering(key: Option<Key>, block: u16) -> Option<Key>
     ensures { result ≡ option_and_then (λ k. then_some (inside k.start k.length block) k) key }
 {
-    key.filter(|key| key.start <= block && block - key.start < key.length)
+    key.filter(|key| key.contains(block))
 }
 
 impl<'a, T: Table> FileKeys<'a, T> {

@@ -8,7 +8,6 @@ ghost use Rattle.key_rule.specs.Mends.{blend, none, Counted, Laid, Mending};
 ghost use Rattle.extent_map.specs.Calls.{Next, Remade};
 
 use crate::keys::FileKeys;
-use blocks::Entry;
 use extents::key::Key;
 use faults::Ground;
 use run_keys::walk::Walk;
@@ -50,24 +49,6 @@ pub struct Cut {
     ghost apart: { before.end ≤ behind.first },
 }
 
-/// The key of an entry that stands at a start.
-fn key_of(start: u16, entry: Entry) -> Key
-    ensures { result ≡ record { start = start; length = entry.length; board = entry.board } }
-{
-    Key {
-        start,
-        length: entry.length,
-        board: entry.board,
-    }
-}
-
-/// The block behind a key.
-fn end_of(key: Key) -> u32
-    ensures { result ≡ key.start + key.length }
-{
-    u32::from(key.start) + u32::from(key.length)
-}
-
 /// The first key of a file that starts from a block on and below `end`.
 ///
 /// The first two blocks are tried by themselves, so that the question for the lowest key, which may pass all rows,
@@ -80,14 +61,14 @@ fn next_key<T: Table>(table: &T, file: u16, from: u32, end: u32) -> Option<Key>
     for block in from..far {
         let start = block as u16;
         if let Some(entry) = table.find(file, start) {
-            return Some(key_of(start, entry));
+            return Some(Key::at(start, entry));
         }
     }
     if far == end {
         return None;
     }
     let row = table.first_from(file, far as u16)?;
-    (u32::from(row.block) < end).then_some(key_of(row.block, row.entry))
+    (u32::from(row.block) < end).then_some(Key::at(row.block, row.entry))
 }
 
 /// Drops the keys of a file from l up to r.
@@ -102,7 +83,7 @@ pub fn drop_keys<T: Table>(table: &mut T, file: u16, l: u32, r: u32)
     // the table changes at each step, so no iterator can hold it
     while let Some(key) = next_key(table, file, x, r) {
         let _ = table.remove(file, key.start);
-        x = end_of(key);
+        x = key.end();
     }
 }
 
@@ -118,7 +99,7 @@ impl<'a, T: Table> FileKeys<'a, T> {
         // the same walk as drop_keys': an iterator for this one count would be longer
         while let Some(key) = next_key(self.table, self.file, x, r) {
             count += 1;
-            x = end_of(key);
+            x = key.end();
         }
         count
     }
@@ -130,11 +111,7 @@ fn put_run<T: Table>(table: &mut T, file: u16, run: Run)
     ensures after { Laid (T.Table.holding table.old) (T.Table.places table.old) file run.first run.end run.board (T.Table.holding table.new) }
 {
     for key in run.walk() {
-        let entry = Entry {
-            length: key.length,
-            board: key.board,
-        };
-        let _ = table.store(file, key.start, entry);
+        let _ = table.store(file, key.start, key.entry());
     }
 }
 

@@ -33,10 +33,9 @@ impl Keys for Vec<Key> {
 fn entry_in(keys: &[Key], start: u16) -> Option<Entry>
     ensures { result ≡ option_map (λ k. entry k.length k.board) (find (λ k. k.start == start) keys.now) }
 {
-    keys.iter().find(|key| key.start == start).map(|key| Entry {
-        length: key.length,
-        board: key.board,
-    })
+    keys.iter()
+        .find(|key| key.start == start)
+        .map(|key| key.entry())
 }
 
 /// The first key that is held on a path, and how many keys were tried.
@@ -54,13 +53,8 @@ pub fn first_held<K: Keys>(keys: &K, block: u16) -> Held
     for start in Path::of(block) {
         tried += 1;
         if let Some(entry) = keys.key_at(start) {
-            let key = Key {
-                start,
-                length: entry.length,
-                board: entry.board,
-            };
             return Held {
-                key: Some(key),
+                key: Some(Key::at(start, entry)),
                 tried,
             };
         }
@@ -73,7 +67,7 @@ pub fn board_by(key: Option<Key>, block: u16) -> Option<u32>
     ensures { result ≡ says key block }
 {
     let key = key?;
-    if key.start <= block && block - key.start < key.length {
+    if key.contains(block) {
         Some(u32::from(key.board) + u32::from(block - key.start))
     } else {
         None

@@ -13,7 +13,7 @@ loop-key-smaller g c =
     let i = c.loop-key.invariant in
     let n = next_back _ _ c.args.file c.args.l c.loop-key.x c.args.r (Some c.in-Some.key) i.3 i.2 c.in-Some.ensures in
     let l = long _ c.requires.held c.args.file c.args.l c.loop-key.x c.args.r i.1 c.in-Some.key n in
-    omega (arith, n.0, n.1, l, c.end_of-x.ensures)
+    omega (arith, n.0, n.1, l, c.end-x.ensures)
 
 pub loop-key-preserved : goal.loop-key-preserved
 loop-key-preserved g c =
@@ -21,7 +21,7 @@ loop-key-preserved g c =
     let x = c.loop-key.x in
     let k = c.in-Some.key in
     let n = next_back _ _ c.args.file c.args.l x c.args.r (Some c.in-Some.key) i.3 i.2 c.in-Some.ensures in
-    rw c.end_of-x.ensures (
+    rw c.end-x.ensures (
       c.remove.ensures.room ∙ i.0,
       omega (arith, n.0),
       next_stops _ c.requires.held c.args.file c.args.l x c.args.r i.1 k n c.requires.barrier,

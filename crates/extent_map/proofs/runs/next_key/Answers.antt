@@ -8,5 +8,5 @@ returns-in_err-row g c =
 
 pub returns : goal.returns
 returns g c =
-    rw (c.then_some.ensures, c.key_of-2.ensures, c.from.ensures) (next_told _ c.args.file c.args.from c.min-far.result c.args.end (λ b xb bz. c.loop-block.invariant b xb (omega arith))
+    rw (c.then_some.ensures, c.at-2.ensures, c.from.ensures) (next_told _ c.args.file c.args.from c.min-far.result c.args.end (λ b xb bz. c.loop-block.invariant b xb (omega arith))
     c.in_ok-row.row (omega arith) c.in_ok-row.ensures (omega arith))

@@ -40,5 +40,5 @@ loop-key-preserved g c =
       (λ m lay lf em fits.
           let old = i.5 m lay lf em fits in
           put_step m c.args.run.first c.args.run.end c.args.run.board lay c.args.run.inside c.args.file lf _ em _ fits _ _ _ w c.next.new.self c.in-Some.key
-          s i.3 i.1 i.4 old.0 old.1 (rw i.0 at t.answer) t.after),
+          s i.3 i.1 i.4 old.0 old.1 (rw i.0 at t.answer) (rw c.entry.ensures at t.after)),
     )

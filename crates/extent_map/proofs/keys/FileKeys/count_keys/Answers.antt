@@ -17,7 +17,7 @@ pub loop-key-smaller : goal.loop-key-smaller
 loop-key-smaller g c =
     let n = c.in-Some.ensures in
     let l = long _ c.args.self.now.held c.args.self.now.file c.args.l c.loop-key.x c.args.r (omega arith) c.in-Some.key n in
-    omega (arith, c.end_of-x.ensures)
+    omega (arith, c.end-x.ensures)
 
 pub loop-key-preserved : goal.loop-key-preserved
 loop-key-preserved g c =
@@ -27,7 +27,7 @@ loop-key-preserved g c =
     let f = c.args.self.now.file in
     let x = c.loop-key.x in
     let l = long _ h f c.args.l x c.args.r (omega arith) c.in-Some.key n in
-    rw c.end_of-x.ensures (
+    rw c.end-x.ensures (
       omega arith,
       next_stops _ h f c.args.l x c.args.r (omega arith) c.in-Some.key n c.requires.barrier,
       next_counts _ h f c.args.l x c.args.r (omega arith) c.in-Some.key n c.loop-key.count i.2,

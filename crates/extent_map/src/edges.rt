@@ -110,13 +110,10 @@ impl<'a, T: Table> FileKeys<'a, T> {
         ensures found { RightEdge (placing (T.Table.holding self.now.table.now) self.now.file) end result.block result.board }
     {
         match self.key_over((end - 1) as u16) {
-            Some(key) => {
-                let start = u32::from(key.start);
-                Edge {
-                    block: start + u32::from(key.length),
-                    board: u32::from(key.board) + (end - start),
-                }
-            }
+            Some(key) => Edge {
+                block: key.end(),
+                board: u32::from(key.board) + (end - u32::from(key.start)),
+            },
             None => Edge {
                 block: end,
                 board: 0,

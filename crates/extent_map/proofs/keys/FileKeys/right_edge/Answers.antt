@@ -6,7 +6,7 @@ pub returns-in-Some-clause-found : goal.returns-in-Some-clause-found
 returns-in-Some-clause-found g c =
     let k = c.in-Some.key in
     let s = c.in-Some.ensures.sane in
-    rw (c.from-start.ensures, c.from.ensures, c.from-in-Some.ensures) (right_some _ c.args.end k.start k.length k.board c.in-Some.ensures.found (omega arith))
+    rw (c.end.ensures, c.from.ensures, c.from-in-Some.ensures) (right_some _ c.args.end k.start k.length k.board c.in-Some.ensures.found (omega arith))
 
 pub returns-in-None-clause-found : goal.returns-in-None-clause-found
 returns-in-None-clause-found g c = right_none _ c.args.end c.requires.0 c.in-None.ensures.found

@@ -41,11 +41,12 @@ module _ (m : FileMap) (l r p : ℕ) (lay : Lay m l r p) (top : r ≤ 65536) (fi
           sum : (u v a b t : ℕ) → u ≡ suc v → a + 1 ≡ b → v + b ≡ t → u + a ≡ t
           sum u v a b t e f g = omega arith
 
-pub walk_counted : (w : Walk) (l r c : ℕ) → w.at ≡ l → w.end ≡ r → l ≤ r → r ≤ 65536 → c ≡ length (to_come w) → Counted l r c
-walk_counted w l r c a b lr top e m p lay file lf h em =
-    let same : length (to_come w) ≡ length (walk (r - l) l r w.board) = cc in
-    let i = rest m l r p lay top file lf h em (r - l) l w.board (omega arith) lr (omega arith) lay.left in
-    sum _ _ _ _ _ (e ∙ same) (ap tally (blend_empty file l (key_at m) h)) i
+pub walk_counted : (w : Walk) (c : ℕ) → c ≡ length (to_come w) → Counted w.left.first w.left.end c
+walk_counted w c e m p lay file lf h em =
+    let l = w.left.first in
+    let r = w.left.end in
+    let i = rest m l r p lay w.left.inside file lf h em (r - l) l w.left.board (omega arith) w.left.order (omega arith) lay.left in
+    sum _ _ _ _ _ e (ap tally (blend_empty file l (key_at m) h)) i
   where
     sum : (c n a b t : ℕ) → c ≡ n → a ≡ b → n + a ≡ t → c + b ≡ t
     sum c n a b t e f g = omega arith
@@ -53,16 +54,16 @@ walk_counted w l r c a b lr top e m p lay file lf h em =
 -- a step of the walk, whose key is put into a table with those before
 module _ (m : FileMap) (l r p : ℕ) (lay : Lay m l r p) (top : r ≤ 65536) (file : ℕ) (lf : file < 65536) (h : Holding) (em : Empty h file l r)
     (room : ℕ) (fits : tally (blend file l r (key_at m) h) ≤ room) where
-  pub put_step : (g g′ : Holding) (done : Bool) (w v : Walk) (k : Key) → Stepped w (Some k) v → w.end ≡ r → l ≤ w.at → w.board + l ≡ p + w.at
-      → Barrier m w.at → g ≡ blend file l w.at (key_at m) h
+  pub put_step : (g g′ : Holding) (done : Bool) (w v : Walk) (k : Key) → Stepped w (Some k) v → w.left.end ≡ r → l ≤ w.left.first → w.left.board + l ≡ p + w.left.first
+      → Barrier m w.left.first → g ≡ blend file l w.left.first (key_at m) h
       → done ≡ not (full g room file k.start) → g′ ≡ cond done (update g file k.start (Some (entry k.length k.board))) g
-      → Barrier m v.at × (g′ ≡ blend file l v.at (key_at m) h)
+      → Barrier m v.left.first × (g′ ≡ blend file l v.left.first (key_at m) h)
   put_step g g′ done w v k s end lx level bar e is after =
-      let st = step m l r p w.at (piece w.at w.end) lay bar lx (omega arith) top (ap (piece w.at) end) in
-      let free = put_room m l r p w.at (piece w.at w.end) st file h g em e room lf top fits in (
+      let st = step m l r p w.left.first (piece w.left.first w.left.end) lay bar lx (omega arith) top (ap (piece w.left.first) end) in
+      let free = put_room m l r p w.left.first (piece w.left.first w.left.end) st file h g em e room lf top fits in (
         subst (Barrier m) (sym s.2) st.next,
-        subst (λ (k : Key). done ≡ not (full g room file k.start) → g′ ≡ cond done (update g file k.start (Some (entry k.length k.board))) g → g′ ≡ blend file l (w.at + piece w.at w.end) (key_at m) h)
-            (sym s.1) (λ is after. stored g g′ room file w.at (entry (piece w.at w.end) w.board) done is after free
-            ∙ put_next m l r p w.at (piece w.at w.end) st file h g em e w.board level lx) is after
+        subst (λ (k : Key). done ≡ not (full g room file k.start) → g′ ≡ cond done (update g file k.start (Some (entry k.length k.board))) g → g′ ≡ blend file l (w.left.first + piece w.left.first w.left.end) (key_at m) h)
+            (sym s.1) (λ is after. stored g g′ room file w.left.first (entry (piece w.left.first w.left.end) w.left.board) done is after free
+            ∙ put_next m l r p w.left.first (piece w.left.first w.left.end) st file h g em e w.left.board level lx) is after
             ∙ ap (λ x. blend file l x (key_at m) h) (sym s.2),
       )

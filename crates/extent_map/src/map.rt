@@ -10,12 +10,13 @@ ghost use Rattle.key_rule.proofs.Changes.{rule_bounded, rule_lighter};
 ghost use Rattle.key_rule.proofs.Mends.{rule_held};
 
 use crate::keys::FileKeys;
-use crate::runs::{Cut, Run, drop_keys, mend};
+use crate::runs::{Cut, drop_keys, mend};
 use blocks::NUMBERS;
 use faults::{Fault, Ground, Layer};
 use look_ups::{Found, look_up};
 use maps::Map;
 use maps::extent::Extent;
+use run_keys::walk::Run;
 use tables::table::Table;
 
 /// A map from the blocks of files to board numbers, held in a table as its keys: the straight aligned extents that lie in no longer one.

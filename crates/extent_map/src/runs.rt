@@ -10,35 +10,15 @@ ghost use Rattle.extent_map.specs.Calls.{Next, Remade};
 use crate::keys::FileKeys;
 use extents::key::Key;
 use faults::Ground;
-use run_keys::walk::Walk;
+use run_keys::walk::Run;
 use tables::table::Table;
 
-/// A straight run of blocks, from `first` up to `end`, at the board numbers from `board` on.
-#[derive(Clone, Copy)]
-pub struct Run {
-    pub first: u32,
-    pub end: u32,
-    pub board: u32,
-    ghost order: { first ≤ end },
-    ghost inside: { end ≤ 65536 },
-    ghost fitting: { board + (end - first) ≤ 4096 },
-}
-
-impl Run {
-    /// The walk over the run, which gives its keys.
-    fn walk(self) -> Walk
-        ensures { (result.«at» ≡ self.first) × (result.end ≡ self.end) × (result.board ≡ self.board) }
-    {
-        Walk::between(self.first, self.end, self.board)
-    }
-
-    /// How many keys the run has.
-    fn key_count(self) -> u64
-        ensures size { result ≤ 65536 }
-        ensures count { Counted self.first self.end result }
-    {
-        self.walk().count() as u64
-    }
+/// How many keys a run has.
+fn key_count(run: Run) -> u64
+    ensures size { result ≤ 65536 }
+    ensures count { Counted run.first run.end result }
+{
+    run.walk().count() as u64
 }
 
 /// Two runs and the hole between them.
@@ -127,7 +107,7 @@ pub fn mend<T: Table>(table: &mut T, file: u16, cut: Cut) -> Result<(), Ground>
         table: &*table,
         file,
     };
-    let more = cut.before.key_count() + cut.behind.key_count();
+    let more = key_count(cut.before) + key_count(cut.behind);
     let less = keys.count_keys(cut.before.first, cut.behind.end);
     if u64::from(table.held()) + more > u64::from(table.room()) + u64::from(less) {
         return Err(Ground::TooManyKeys);

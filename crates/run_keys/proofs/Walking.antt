@@ -9,9 +9,9 @@ use Rattle.run_keys.specs.Walks.{Stepped, to_come, Planned}
 use Rattle.extents.proofs.Greed.{walk_done, walk_step}
 use Rattle.extents.proofs.OneRun.{run_keys}
 
-pub to_come_first : (w : Walk) (first n p : ℕ) → w.at ≡ first → w.end ≡ first + n → w.board ≡ p → to_come w ≡ walk n first (first + n) p
+pub to_come_first : (w : Walk) (first n p : ℕ) → w.left.first ≡ first → w.left.end ≡ first + n → w.left.board ≡ p → to_come w ≡ walk n first (first + n) p
 to_come_first w first n p a e b =
-    let d : w.end - w.at ≡ n = omega arith in
+    let d : w.left.end - w.left.first ≡ n = omega arith in
     cc
 
 pub to_come_step : (w v : Walk) (k : Key) → Stepped w (Some k) v → to_come w ≡ k ∷ to_come v
@@ -20,11 +20,11 @@ to_come_step w v k s =
     let a = s.2 in
     let r = s.3 in
     let b = s.4 in
-    let n : w.end - (w.at + piece w.at w.end) ≡ v.end - v.at = omega arith in
-    walk_step w.at w.end w.board s.0 ∙ cc
+    let n : w.left.end - (w.left.first + piece w.left.first w.left.end) ≡ v.left.end - v.left.first = omega arith in
+    walk_step w.left.first w.left.end w.left.board s.0 ∙ cc
 
 pub to_come_none : (w v : Walk) → Stepped w None v → to_come w ≡ []
-to_come_none w v s = walk_done (w.end - w.at) w.at w.end w.board s.0
+to_come_none w v s = walk_done (w.left.end - w.left.first) w.left.first w.left.end w.left.board s.0
 
 -- Any run of a walk gives the keys that are to come, and then none.
 pub walk_yields : (w : Walk) → YieldsList Stepped (λ k. k) w (to_come w)

@@ -10,19 +10,19 @@ use Rattle.extents.specs.Runs.{run_map, ground_of_run, piece, walk, ListsKeys}
 
 -- A walk is begun at the run's first block, unless a ground refuses the run.
 abbrev pub Begun : ℕ → ℕ → ℕ → Result Walk Ground → Type 0
-Begun first n p (Ok w) = (ground_of_run first n p ≡ None) × (w.at ≡ first) × (w.end ≡ first + n) × (w.board ≡ p)
+Begun first n p (Ok w) = (ground_of_run first n p ≡ None) × (w.left.first ≡ first) × (w.left.end ≡ first + n) × (w.left.board ≡ p)
 Begun first n p (Err g) = ground_of_run first n p ≡ Some g
 
 -- A step gives the key at the front and leaves what follows it; where nothing is left it gives none.
 abbrev pub Stepped : Walk → Option Key → Walk → Type 0
-Stepped w None v = (w.end ≤ w.at) × (v ≡ w)
+Stepped w None v = (w.left.end ≤ w.left.first) × (v ≡ w)
 Stepped w (Some k) v =
-    (w.at < w.end) × (k ≡ key w.at (piece w.at w.end) w.board)
-    × (v.at ≡ w.at + piece w.at w.end) × (v.end ≡ w.end) × (v.board ≡ w.board + piece w.at w.end)
+    (w.left.first < w.left.end) × (k ≡ key w.left.first (piece w.left.first w.left.end) w.left.board)
+    × (v.left.first ≡ w.left.first + piece w.left.first w.left.end) × (v.left.end ≡ w.left.end) × (v.left.board ≡ w.left.board + piece w.left.first w.left.end)
 
 -- The keys that are still to come.
 abbrev pub to_come : Walk → List Key
-to_come w = walk (w.end - w.at) w.at w.end w.board
+to_come w = walk (w.left.end - w.left.first) w.left.first w.left.end w.left.board
 
 -- The list has the keys of the map that holds just this run, in the order of the walk.
 pub record Planned (first n p : ℕ) (ks : List Key) : Type 0 where

@@ -6,7 +6,7 @@ ghost use Rattle.run_keys.specs.declared.run.RunError.TheVariants.{Unadmitted, N
 ghost use Rattle.run_keys.specs.Walks.{Begun, Stepped, Planned, Unplanned};
 ghost use Rattle.std.specs.Iterator.{at_most};
 
-use crate::walk::Walk;
+use crate::walk::{Run, Walk};
 use extents::key::Key;
 use faults::Ground;
 use std::alloc::{AllocError, Global};
@@ -24,18 +24,6 @@ pub fn piece_length(block: u32, left: u32) -> u32
 }
 
 impl Walk {
-    /// A walk over the blocks from l up to r, which lie at the board numbers from `board` on.
-    pub fn between(l: u32, r: u32, board: u32) -> Walk
-        requires { (r ≤ 65536) × (board + (r - l) ≤ 4096) }
-        ensures { (result.«at» ≡ l) × (result.end ≡ r) × (result.board ≡ board) }
-    {
-        Walk {
-            at: l,
-            end: r,
-            board,
-        }
-    }
-
     /// A walk over the n blocks from `first`, which lie at the board numbers from `board` on.
     pub fn over(first: u32, n: u32, board: u32) -> Result<Walk, Ground>
         ensures { Begun first n board result }
@@ -49,7 +37,12 @@ impl Walk {
         if board > 4096 || n > 4096 - board {
             return Err(Ground::BoardNumber);
         }
-        Ok(Walk::between(first, first + n, board))
+        let run = Run {
+            first,
+            end: first + n,
+            board,
+        };
+        Ok(run.walk())
     }
 }
 
@@ -58,22 +51,25 @@ impl Iterator for Walk {
 
     ghost next_gives = { Stepped };
 
-    ghost remaining = { λ w. at_most (w.end - w.«at») };
+    ghost remaining = { λ w. at_most (w.left.end - w.left.first) };
 
     #[tactic(auto, using(extents::proofs::Sizes::next_piece))]
     fn next(&mut self) -> Option<Key> {
-        if self.at >= self.end {
+        let Run { first, end, board } = self.left;
+        if first == end {
             return None;
         }
-        let length = piece_length(self.at, self.end - self.at);
-        let key = Key {
-            start: self.at as u16,
-            length: length as u16,
-            board: self.board as u16,
+        let length = piece_length(first, end - first);
+        self.left = Run {
+            first: first + length,
+            end,
+            board: board + length,
         };
-        self.at += length;
-        self.board += length;
-        Some(key)
+        Some(Key {
+            start: first as u16,
+            length: length as u16,
+            board: board as u16,
+        })
     }
 }
 

@@ -1,6 +1,7 @@
 use Rattle.std.proofs.Common.{sym, refl, ap, ◌∙◌, subst, arith}
 use Rattle.extents.specs.Extents.{Barrier, key_at}
 use Rattle.extents.proofs.Greed.{piece_fits}
+use Rattle.run_keys.specs.declared.walk.Run.{Run}
 use Rattle.run_keys.specs.declared.walk.Walk.{Walk}
 use Rattle.key_rule.specs.Mends.{blend}
 use Rattle.key_rule.proofs.Tallies.{blend_empty}
@@ -9,11 +10,10 @@ use Rattle.extent_map.proofs.runs.put_run.Goals as goal
 
 pub loop-key-init : goal.loop-key-init
 loop-key-init g c =
-    let w = c.walk-key-items.ensures in
-    let it = c.into_iter-key-iterator.ensures.into_iter_gives in
-    let a = ap (λ (w : Walk). w.at) it ∙ w.0 in
-    let e = ap (λ (w : Walk). w.end) it ∙ w.1 in
-    let b = ap (λ (w : Walk). w.board) it ∙ w.2 in (
+    let it = ap (λ (w : Walk). w.left) c.into_iter-key-iterator.ensures.into_iter_gives ∙ c.walk-key-items.ensures in
+    let a = ap (λ (r : Run). r.first) it in
+    let e = ap (λ (r : Run). r.end) it in
+    let b = ap (λ (r : Run). r.board) it in (
       refl,
       omega (arith, a),
       omega (arith, a, c.args.run.order),
@@ -31,7 +31,7 @@ loop-key-preserved g c =
     let s = c.in-Some.ensures.steps in
     let t = c.store.ensures in
     let w = c.loop-key.key-iterator in
-    let f = piece_fits w.at w.end s.0 in (
+    let f = piece_fits w.left.first w.left.end s.0 in (
       t.room ∙ i.0,
       omega (arith, s.2),
       omega (arith, s.2, f),

@@ -7,6 +7,7 @@ ghost use Rattle.run_keys.specs.Walks.{Begun, Stepped, Planned, Unplanned};
 ghost use Rattle.std.specs.Iterator.{at_most};
 
 use crate::walk::{Run, Walk};
+use blocks::{BOARD_BLOCKS, EXTENT_BLOCKS, NUMBERS};
 use extents::key::Key;
 use faults::Ground;
 use std::alloc::{AllocError, Global};
@@ -28,13 +29,13 @@ impl Walk {
     pub fn over(first: u32, n: u32, board: u32) -> Result<Walk, Ground>
         ensures { Begun first n board result }
     {
-        if first > 65535 || n > 65536 - first {
+        if first >= NUMBERS || n > NUMBERS - first {
             return Err(Ground::Block);
         }
-        if n == 0 || n > 4096 {
+        if n == 0 || n > EXTENT_BLOCKS {
             return Err(Ground::Length);
         }
-        if board > 4096 || n > 4096 - board {
+        if board > BOARD_BLOCKS || n > BOARD_BLOCKS - board {
             return Err(Ground::BoardNumber);
         }
         let run = Run {

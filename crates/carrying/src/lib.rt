@@ -23,7 +23,7 @@ fn carry_file<S: Reading, T: Lower>(source: &mut S, target: &mut T, file: u32, w
     ensures source { Holds (S.Reading.files source.old) (S.Reading.width source.old) (S.Reading.bytes source.old) (S.Reading.files source.new) (S.Reading.width source.new) (S.Reading.bytes source.new) }
 {
     let mut carried = 0;
-    // A loop and no chain: its step changes both sides.
+    // A loop and no chain: its step changes both sides, and of what a closure changes a chain tells a proof nothing.
     for block in 0..width {
         if carry(source, target, file, block).is_ok() {
             carried += 1;

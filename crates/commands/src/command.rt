@@ -36,7 +36,7 @@ pub enum Command {
     Keys,
 }
 
-/// The command with this letter, by the fields behind it.
+/// The command with this letter, by the fields behind it. The letters stand here as a reader finds them in the form of a line.
 fn by_letter(letter: char, rest: Option<&[u8]>) -> Option<Command>
     ensures { result ≡ command_by_letter letter (option_map (λ x. x.now) rest.entry) }
 {

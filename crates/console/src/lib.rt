@@ -46,6 +46,7 @@ impl fmt::Display for ConsoleError {
 
 impl Error for ConsoleError {}
 
+/// By hand: a clause names the case that `?` makes.
 impl From<AllocError> for ConsoleError {
     ghost from_gives = { λ _ r. r ≡ NoMemory };
 

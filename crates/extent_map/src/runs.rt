@@ -60,7 +60,7 @@ pub fn drop_keys<T: Table>(table: &mut T, file: u16, l: u32, r: u32)
     ensures after { T.Table.holding table.new ≡ blend file l r none (T.Table.holding table.old) }
 {
     let mut x = l;
-    // the table changes at each step, so no iterator can hold it
+    // a loop and no iterator: between two steps the table does not hold exactly the keys of its map
     while let Some(key) = next_key(table, file, x, r) {
         let _ = table.remove(file, key.start);
         x = key.end();

@@ -18,6 +18,7 @@ pub struct Files<B: AsSlice<u8>> {
 
 impl<B: AsSlice<u8> + Copy> Copy for Files<B> {}
 
+/// By hand: none is derived over a ghost field and a parameter.
 impl<B: AsSlice<u8> + Copy> Clone for Files<B> {
     ghost is_clone = { λ s t. t ≡ s };
 

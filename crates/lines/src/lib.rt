@@ -39,7 +39,7 @@ pub fn cut(text: &[u8], at: u8) -> Parts<'_>
 }
 
 /// Reads a text line by line: each line ends at a newline, and a last one may lack it.
-/// It borrows the text and walks it by a position: the project keeps this reader in that form.
+/// It borrows the text and walks it by a position, so that nothing is copied.
 #[derive(Drop)]
 pub struct LineReader<'a> {
     input: &'a [u8],

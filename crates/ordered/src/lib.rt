@@ -40,7 +40,7 @@ fn place_in(rows: &Vec<Row>, file: u16, block: u16) -> usize
     ensures { Stands rows.now.items (rank file block) result }
 {
     let wanted = rank_of(file, block);
-    // The project wants this loop with an index into the rows.
+    // A loop with an index into the rows, which shows each row that is looked at.
     let mut low = 0;
     let mut high = rows.len();
     while low < high {
@@ -82,7 +82,7 @@ impl Table for OrderedTable {
     /// Counts the rows.
     fn held(&self) -> u32 {
         let room = self.room;
-        // The project wants this loop with an index into the rows.
+        // A loop with an index into the rows, which shows each row that is looked at.
         let mut i = 0;
         while i < room && (i as usize) < self.rows.len() {
             i += 1;

@@ -37,6 +37,7 @@ impl fmt::Display for PlanError {
 
 impl Error for PlanError {}
 
+/// By hand: a clause names the case that `?` makes.
 impl From<AllocError> for PlanError {
     ghost from_gives = { λ _ r. r ≡ NoMemory };
 
@@ -77,7 +78,7 @@ impl Draft {
     }
 }
 
-/// Adds the lines of some keys to a text. `Key` is another crate's type, so its line is no `Display` of it.
+/// Adds the lines of some keys to a text. What a line says is the planner's, so it is no `Display` of the key.
 fn write_keys(text: &mut String, keys: &[Key]) -> Result<(), AllocError>
     ensures { OnOk result (string_bytes text.new ≡ string_bytes text.old ++ keys_text keys.now) }
 {

@@ -67,6 +67,7 @@ impl PlannedRun {
             blocks,
             board,
         } = self.run;
+        // A loop and no fold: it keeps two numbers, each with an invariant of its own.
         let mut right = 0;
         let mut tried: u32 = 0;
         for i in 0..blocks {

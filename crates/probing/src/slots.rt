@@ -10,7 +10,7 @@ ghost use Rattle.probing.specs.Slots.{used, slot_at, dist, Probed, Within, looke
 use std::alloc::{AllocError, Global};
 use tables::row::Row;
 
-/// A place for a row.
+/// A place for a row. It is a type of its own, since it is what a table lends to be changed.
 #[derive(Clone, Copy)]
 pub struct Slot {
     pub row: Option<Row>,

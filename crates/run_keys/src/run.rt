@@ -83,6 +83,7 @@ pub enum RunError {
     NoMemory,
 }
 
+/// By hand, as the next: a clause names the case that `?` makes.
 impl From<Ground> for RunError {
     ghost from_gives = { λ ground r. r ≡ Unadmitted ground };
 

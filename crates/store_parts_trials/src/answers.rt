@@ -1,4 +1,4 @@
-//! Answers by the numbers under which refusals are known.
+//! Answers by the numbers under which refusals are known, which the trials hold fixed.
 
 use faults::Fault;
 

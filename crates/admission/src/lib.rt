@@ -16,9 +16,7 @@ pub fn admit_read<L: Lower>(lower: &L, file: u32, block: u32, len: usize) -> Res
     ensures { result ≡ unless (ground_of_block (L.Reading.files lower.now) (L.Reading.width lower.now) file block len) file block (Ok tt) }
 {
     let ground = lower.sizes().block_ground(file, block, len);
-    Layer::Store
-        .grant_unless(ground, file, block)
-        .map_err(StoreFault::Own)
+    own_unless(ground, file, block)
 }
 
 /// Whether a write is.
@@ -33,9 +31,7 @@ pub fn admit_write<L: Lower>(
 {
     let bad_mark = (mark > 1).then_some(Ground::Mark);
     let ground = bad_mark.or(lower.sizes().block_ground(file, block, len));
-    Layer::Store
-        .grant_unless(ground, file, block)
-        .map_err(StoreFault::Own)
+    own_unless(ground, file, block)
 }
 
 /// Whether a clear of the n blocks from the first on is.
@@ -43,9 +39,7 @@ pub fn admit_clear<L: Lower>(lower: &L, file: u32, first: u32, n: u32) -> Result
     ensures { result ≡ unless (ground_of_extent (L.Reading.files lower.now) (L.Reading.width lower.now) file first n) file first (Ok tt) }
 {
     let ground = lower.sizes().extent_ground(file, first, n);
-    Layer::Store
-        .grant_unless(ground, file, first)
-        .map_err(StoreFault::Own)
+    own_unless(ground, file, first)
 }
 
 /// Whether a call of a whole file is.
@@ -53,7 +47,14 @@ pub fn admit_file<L: Lower>(lower: &L, file: u32) -> Result<(), StoreFault>
     ensures { result ≡ unless (ground_of_file (L.Reading.files lower.now) file) file 0 (Ok tt) }
 {
     let ground = (file >= lower.files()).then_some(Ground::File);
+    own_unless(ground, file, 0)
+}
+
+/// The store's own fault where there is a ground for it.
+fn own_unless(ground: Option<Ground>, file: u32, block: u32) -> Result<(), StoreFault>
+    ensures { result ≡ unless ground file block (Ok tt) }
+{
     Layer::Store
-        .grant_unless(ground, file, 0)
+        .grant_unless(ground, file, block)
         .map_err(StoreFault::Own)
 }

@@ -9,7 +9,7 @@ use std::io::{Read, Write};
 /// Enough for the replies to the longest input.
 const OUTPUT_BYTES: usize = 5 * LONGEST_INPUT + 5;
 
-fn run(rt: &HostRuntime) -> anyhow::Result<()> {
+fn main(rt: HostRuntime) -> anyhow::Result<()> {
     let mut input = Vec::new(rt.alloc());
     let _ = rt
         .stdin()
@@ -20,8 +20,4 @@ fn run(rt: &HostRuntime) -> anyhow::Result<()> {
     let printed = print_replies(rt.alloc(), input.as_slice(), replies)?;
     rt.stdout().write_all(&replies[0..printed])?;
     Ok(())
-}
-
-fn main(rt: HostRuntime) -> anyhow::Result<()> {
-    run(&rt)
 }

@@ -10,7 +10,7 @@ use Rattle.blocks.proofs.Sums.{tally_change}
 use Rattle.tables.specs.declared.row.Row.{Row}
 use Rattle.tables.specs.Holding.{Holding, Numbered, full, lowest_row}
 use Rattle.tables.proofs.Looks.{room_new}
-use Rattle.tables.proofs.Lowest.{Lowest, lowest_when_some}
+use Rattle.tables.proofs.Lowest.{lowest_when_some}
 use Rattle.block_map.specs.BlockKeys.{Free, single}
 
 -- Two that agree on one file and on all others are the same.
@@ -109,31 +109,14 @@ put_next h0 h h' places places' file first n board block r lf ln lb li free room
     ∙ ap (λ (z : Holding). changed z file (only block) (λ _. single first board block)) e
     ∙ extend_at h0 file first block (single first board) lb
 
--- The keys of a file are dropped below a block, and all else is as it was.
-pub record Dropped (h0 h : Holding) (file from : ℕ) : Type 0 where
-  pub within : from ≤ 65536
-  pub below : (b : ℕ) → b < from → h file b ≡ None
-  pub beside : (f b : ℕ) → f ≢ file → h f b ≡ h0 f b
+-- All other files are as they were.
+abbrev pub Beside : Holding → Holding → ℕ → Type 0
+Beside h0 h file = (f b : ℕ) → f ≢ file → h f b ≡ h0 f b
 
--- The lowest key from a block on is dropped.
-pub drop_next : (h0 h h' : Holding) (file from : ℕ) (row : Row) → Dropped h0 h file from → Some row ≡ lowest_row h file from
-    → h' ≡ changed h file (only row.block) (λ _. None) → Dropped h0 h' file row.block
-drop_next h0 h h' file from row d found after =
-    record {
-      within = omega (arith, low.within);
-      below = λ b l. left b (λ z. omega arith) ∙ at b l (cases_lt b from);
-      beside = λ f b z. ap (λ (k : Holding). k f b) after ∙ changed_elsewhere h file (only row.block) (λ _. None) f b z ∙ d.beside f b z;
-    }
-  where
-    low : Lowest (h file) file from 65536 row
-    low = lowest_when_some h file from row d.within (sym found)
-
-    left : (b : ℕ) → b ≢ row.block → h' file b ≡ h file b
-    left b z = ap (λ (k : Holding). k file b) after ∙ changed_beside h file (only row.block) (λ _. None) b (only_other row.block b z)
-
-    at : (b : ℕ) → b < row.block → (b < from) ⊎ (from ≤ b) → h file b ≡ None
-    at b l (inl m) = d.below b m
-    at b l (inr m) = low.before b m l
+-- A key of the file is dropped.
+pub drop_next : (h0 h h' : Holding) (file block : ℕ) → Beside h0 h file → h' ≡ changed h file (only block) (λ _. None) → Beside h0 h' file
+drop_next h0 h h' file block d after f b z =
+    ap (λ (k : Holding). k f b) after ∙ changed_elsewhere h file (only block) (λ _. None) f b z ∙ d f b z
 
 -- It was one key.
 pub drop_fewer : (h h' : Holding) (file from : ℕ) (row : Row) → from ≤ 65536 → file < 65536 → Some row ≡ lowest_row h file from
@@ -145,18 +128,17 @@ drop_fewer h h' file from row lb lf found after =
     let e : tally h' ≡ tally (changed h file (only row.block) (λ _. None)) = ap (λ (z : Holding). tally z) after in
     omega arith
 
--- No key is left of a file once there is none from a block on.
-pub drop_all : (h0 h : Holding) (file from : ℕ) → Numbered h → Dropped h0 h file from
-    → ((b : ℕ) → from ≤ b → b < 65536 → h file b ≡ None) → h ≡ changed h0 file every (λ _. None)
-drop_all h0 h file from num d none = file_ext h (changed h0 file every (λ _. None)) file
-    (λ b. at b (cases_lt b from) (cases_lt b 65536) ∙ sym (changed_here h0 file every (λ _. None) b refl))
-    (λ f b z. d.beside f b z ∙ sym (changed_elsewhere h0 file every (λ _. None) f b z))
+-- No key is left of a file once none is found from its first block on.
+pub drop_all : (h0 h : Holding) (file : ℕ) → Numbered h → Beside h0 h file
+    → ((b : ℕ) → 0 ≤ b → b < 65536 → h file b ≡ None) → h ≡ changed h0 file every (λ _. None)
+drop_all h0 h file num d none = file_ext h (changed h0 file every (λ _. None)) file
+    (λ b. at b (cases_lt b 65536) ∙ sym (changed_here h0 file every (λ _. None) b refl))
+    (λ f b z. d f b z ∙ sym (changed_elsewhere h0 file every (λ _. None) f b z))
   where
     past : (b : ℕ) (o : Option Entry) → 65536 ≤ b → h file b ≡ o → o ≡ None
     past b None l s = refl
     past b (Some x) l s = absurd (let k = num file b (ap is_some s) in let z : b < 65536 = k.1 in omega arith)
 
-    at : (b : ℕ) → (b < from) ⊎ (from ≤ b) → (b < 65536) ⊎ (65536 ≤ b) → h file b ≡ None
-    at b (inl l) _ = d.below b l
-    at b (inr l) (inl m) = none b l m
-    at b (inr l) (inr m) = past b (h file b) m refl
+    at : (b : ℕ) → (b < 65536) ⊎ (65536 ≤ b) → h file b ≡ None
+    at b (inl m) = none b (omega arith) m
+    at b (inr m) = past b (h file b) m refl

@@ -54,9 +54,7 @@ pub fn drop_file<T: Table>(table: &mut T, file: u16)
     ensures room { T.Table.places table.new ≡ T.Table.places table.old }
     ensures after { T.Table.holding table.new ≡ changed (T.Table.holding table.old) file every (λ _. None) }
 {
-    let mut from = 0;
-    while let Some(row) = table.first_from(file, from) {
+    while let Some(row) = table.first_from(file, 0) {
         let _ = table.remove(file, row.block);
-        from = row.block;
     }
 }

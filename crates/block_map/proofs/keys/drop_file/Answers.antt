@@ -5,18 +5,18 @@ use Rattle.block_map.proofs.keys.drop_file.Goals as goal
 
 pub loop-row-smaller : goal.loop-row-smaller
 loop-row-smaller g c =
-    drop_fewer (g.T.Table.holding c.loop-row.table) (g.T.Table.holding c.remove.new.self) c.args.file c.loop-row.from c.in-Some.row
-    c.loop-row.invariant.1.within (omega arith) c.in-Some.ensures c.remove.ensures.after
+    drop_fewer (g.T.Table.holding c.loop-row.table) (g.T.Table.holding c.remove.new.self) c.args.file 0 c.in-Some.row
+    (omega arith) (omega arith) c.in-Some.ensures c.remove.ensures.after
 
 pub loop-row-preserved : goal.loop-row-preserved
 loop-row-preserved g c = (
   c.remove.ensures.room ∙ c.loop-row.invariant.0,
   drop_next (g.T.Table.holding c.args.table.now) (g.T.Table.holding c.loop-row.table) (g.T.Table.holding c.remove.new.self)
-      c.args.file c.loop-row.from c.in-Some.row c.loop-row.invariant.1 c.in-Some.ensures c.remove.ensures.after,
+      c.args.file c.in-Some.row.block c.loop-row.invariant.1 c.remove.ensures.after,
 )
 
 pub returns-clause-after : goal.returns-clause-after
 returns-clause-after g c =
-    drop_all (g.T.Table.holding c.args.table.now) (g.T.Table.holding c.loop-row.table) c.args.file c.loop-row.from
+    drop_all (g.T.Table.holding c.args.table.now) (g.T.Table.holding c.loop-row.table) c.args.file
     (g.met.T.Table.numbered c.loop-row.table) c.loop-row.invariant.1
-    (lowest_when_none (g.T.Table.holding c.loop-row.table) c.args.file c.loop-row.from (sym c.in_default.ensures))
+    (lowest_when_none (g.T.Table.holding c.loop-row.table) c.args.file 0 (sym c.in_default.ensures))

@@ -114,8 +114,8 @@ abbrev pub Beside : Holding → Holding → ℕ → Type 0
 Beside h0 h file = (f b : ℕ) → f ≢ file → h f b ≡ h0 f b
 
 -- A key of the file is dropped.
-pub drop_next : (h0 h h' : Holding) (file block : ℕ) → Beside h0 h file → h' ≡ changed h file (only block) (λ _. None) → Beside h0 h' file
-drop_next h0 h h' file block d after f b z =
+pub beside_next : (h0 h h' : Holding) (file block : ℕ) → Beside h0 h file → h' ≡ changed h file (only block) (λ _. None) → Beside h0 h' file
+beside_next h0 h h' file block d after f b z =
     ap (λ (k : Holding). k f b) after ∙ changed_elsewhere h file (only block) (λ _. None) f b z ∙ d f b z
 
 -- It was one key.
@@ -129,9 +129,9 @@ drop_fewer h h' file from row lb lf found after =
     omega arith
 
 -- No key is left of a file once none is found from its first block on.
-pub drop_all : (h0 h : Holding) (file : ℕ) → Numbered h → Beside h0 h file
+pub beside_all : (h0 h : Holding) (file : ℕ) → Numbered h → Beside h0 h file
     → ((b : ℕ) → 0 ≤ b → b < 65536 → h file b ≡ None) → h ≡ changed h0 file every (λ _. None)
-drop_all h0 h file num d none = file_ext h (changed h0 file every (λ _. None)) file
+beside_all h0 h file num d none = file_ext h (changed h0 file every (λ _. None)) file
     (λ b. at b (cases_lt b 65536) ∙ sym (changed_here h0 file every (λ _. None) b refl))
     (λ f b z. d f b z ∙ sym (changed_elsewhere h0 file every (λ _. None) f b z))
   where
@@ -142,3 +142,61 @@ drop_all h0 h file num d none = file_ext h (changed h0 file every (λ _. None)) 
     at : (b : ℕ) → (b < 65536) ⊎ (65536 ≤ b) → h file b ≡ None
     at b (inl m) = none b (omega arith) m
     at b (inr m) = past b (h file b) m refl
+
+-- ---- the same, from block to block
+
+-- The lowest key from a block on is dropped.
+pub drop_next : (h0 h h' : Holding) (file from : ℕ) (row : Row) → from ≤ 65536
+    → h ≡ changed h0 file (inside 0 from) (λ _. None) → Some row ≡ lowest_row h file from
+    → h' ≡ changed h file (only row.block) (λ _. None)
+    → (from ≤ row.block) × (h' ≡ changed h0 file (inside 0 (row.block + 1)) (λ _. None))
+drop_next h0 h h' file from row lf e found after =
+    let low = lowest_when_some h file from row lf (sym found) in (
+      low.least,
+      file_ext h' (changed h0 file (inside 0 (row.block + 1)) (λ _. None)) file
+          (λ b. at low b (cases_lt b from) (cases_lt b row.block) (cases_eq b row.block))
+          (λ f b d. ap (λ (z : Holding). z f b) after ∙ changed_elsewhere h file (only row.block) (λ _. None) f b d
+          ∙ ap (λ (z : Holding). z f b) e ∙ changed_elsewhere h0 file (inside 0 from) (λ _. None) f b d
+          ∙ sym (changed_elsewhere h0 file (inside 0 (row.block + 1)) (λ _. None) f b d)),
+    )
+  where
+    gone : (b : ℕ) → b < row.block + 1 → changed h0 file (inside 0 (row.block + 1)) (λ _. None) file b ≡ None
+    gone b l = changed_here h0 file (inside 0 (row.block + 1)) (λ _. None) b (inside_yes 0 (row.block + 1) b (omega arith) (omega arith))
+
+    left : (b : ℕ) → b ≢ row.block → h' file b ≡ h file b
+    left b d = ap (λ (z : Holding). z file b) after ∙ changed_beside h file (only row.block) (λ _. None) b (only_other row.block b d)
+
+    at : Rattle.tables.proofs.Lowest.Lowest (h file) file from 65536 row → (b : ℕ) → (b < from) ⊎ (from ≤ b) → (b < row.block) ⊎ (row.block ≤ b) → (b ≡ row.block) ⊎ (b ≢ row.block)
+        → h' file b ≡ changed h0 file (inside 0 (row.block + 1)) (λ _. None) file b
+    at low b (inl l) _ _ =
+        let k : from ≤ row.block = low.least in
+        left b (λ z. omega arith) ∙ ap (λ (z : Holding). z file b) e
+        ∙ changed_here h0 file (inside 0 from) (λ _. None) b (inside_yes 0 from b (omega arith) (omega arith))
+        ∙ sym (gone b (omega arith))
+    at low b (inr l) (inl m) _ = left b (λ z. omega arith) ∙ low.before b l m ∙ sym (gone b (omega arith))
+    at low b (inr l) (inr m) (inl q) =
+        ap (λ (z : Holding). z file b) after ∙ changed_here h file (only row.block) (λ _. None) b (ap (only row.block) q ∙ only_here row.block)
+        ∙ sym (gone b (omega arith))
+    at low b (inr l) (inr m) (inr q) =
+        let k : from ≤ row.block = low.least in
+        left b q ∙ ap (λ (z : Holding). z file b) e
+        ∙ changed_beside h0 file (inside 0 from) (λ _. None) b (inside_after 0 from b (omega arith))
+        ∙ sym (changed_beside h0 file (inside 0 (row.block + 1)) (λ _. None) b (inside_after 0 (row.block + 1) b (omega arith)))
+
+-- No key is left of a file once there is none from a block on.
+pub drop_all : (h0 h : Holding) (file from : ℕ) → Numbered h0 → h ≡ changed h0 file (inside 0 from) (λ _. None)
+    → ((b : ℕ) → from ≤ b → b < 65536 → h file b ≡ None) → h ≡ changed h0 file every (λ _. None)
+drop_all h0 h file from num e none = file_ext h (changed h0 file every (λ _. None)) file
+    (λ b. at b (cases_lt b from) (cases_lt b 65536) ∙ sym (changed_here h0 file every (λ _. None) b refl))
+    (λ f b d. ap (λ (z : Holding). z f b) e ∙ changed_elsewhere h0 file (inside 0 from) (λ _. None) f b d
+    ∙ sym (changed_elsewhere h0 file every (λ _. None) f b d))
+  where
+    past : (b : ℕ) (o : Option Entry) → 65536 ≤ b → h0 file b ≡ o → o ≡ None
+    past b None l s = refl
+    past b (Some x) l s = absurd (let k = num file b (ap is_some s) in let z : b < 65536 = k.1 in omega arith)
+
+    at : (b : ℕ) → (b < from) ⊎ (from ≤ b) → (b < 65536) ⊎ (65536 ≤ b) → h file b ≡ None
+    at b (inl l) _ = ap (λ (z : Holding). z file b) e ∙ changed_here h0 file (inside 0 from) (λ _. None) b (inside_yes 0 from b (omega arith) (omega arith))
+    at b (inr l) (inl m) = none b l m
+    at b (inr l) (inr m) =
+        ap (λ (z : Holding). z file b) e ∙ changed_beside h0 file (inside 0 from) (λ _. None) b (inside_after 0 from b (omega arith)) ∙ past b (h0 file b) m refl

@@ -11,39 +11,38 @@ use Rattle.cached_map.specs.declared.memory.Memory.{Memory}
 -- ---- one line
 
 -- what a line says of a block
-abbrev pub says : ℕ → ℕ → Line → Option ℕ
-says file block l = cond (l.file == file && l.block == block) l.board None
+abbrev pub says : ℕ → ℕ → Option Line → Option ℕ
+says file block None = None
+says file block (Some l) = cond (l.file == file && l.block == block) (Some l.board) None
 
--- The line is true of a placement: a block that it gives a board number lies there.
-abbrev pub True : Placement → Line → Type 0
-True p l = (board : ℕ) → l.board ≡ Some board → p l.file l.block ≡ Some board
-
--- a line that says nothing
-abbrev pub blank_line : Line
-blank_line = record { file = 0; block = 0; board = None }
+-- The line is true of a placement: the block that it gives a board number lies there.
+abbrev pub True : Placement → Option Line → Type 0
+True p None = Unit {0}
+True p (Some l) = p l.file l.block ≡ Some l.board
 
 -- a line that says nothing any more, if its block is one of the n of a file from `first` on
-abbrev pub struck : ℕ → ℕ → ℕ → Line → Line
-struck file first n l =
-    cond (l.file == file && inside first n l.block) (record { file = l.file; block = l.block; board = None }) l
+abbrev pub struck : ℕ → ℕ → ℕ → Option Line → Option Line
+struck file first n None = None
+struck file first n (Some l) = cond (l.file == file && inside first n l.block) None (Some l)
 
 -- ---- all lines
 
 -- what the first line says that says something of the block
-abbrev pub recalled : List Line → ℕ → ℕ → Option ℕ
+abbrev pub recalled : List (Option Line) → ℕ → ℕ → Option ℕ
 recalled [] file block = None
 recalled (l ∷ ls) file block = option_or (says file block l) (recalled ls file block)
 
 -- Every line is true.
-abbrev pub AllTrue : Placement → List Line → Type 0
+abbrev pub AllTrue : Placement → List (Option Line) → Type 0
 AllTrue p [] = Unit {0}
 AllTrue p (l ∷ ls) = True p l × AllTrue p ls
 
 -- That has one proof at most.
-pub True-prop : (p : Placement) (l : Line) → IsProp (True p l)
-True-prop p l = hlevel props
+pub True-prop : (p : Placement) (l : Option Line) → IsProp (True p l)
+True-prop p None = Unit-prop
+True-prop p (Some l) = hlevel props
 
-pub AllTrue-prop : (p : Placement) (ls : List Line) → IsProp (AllTrue p ls)
+pub AllTrue-prop : (p : Placement) (ls : List (Option Line)) → IsProp (AllTrue p ls)
 AllTrue-prop p [] = Unit-prop
 AllTrue-prop p (l ∷ ls) = ×_prop (True-prop p l) (AllTrue-prop p ls)
 
@@ -51,12 +50,12 @@ AllTrue-prop p (l ∷ ls) = ×_prop (True-prop p l) (AllTrue-prop p ls)
 
 -- nothing is remembered
 abbrev pub blank_memory : Memory
-blank_memory = record { lines = replicate 8 blank_line; turn = 0 }
+blank_memory = record { lines = replicate 8 None; turn = 0 }
 
 -- a block's board number is remembered in the place whose turn it is, which is the oldest line's
 abbrev pub remembered : Memory → ℕ → ℕ → ℕ → Memory
 remembered m file block board = record {
-  lines = slice_set m.lines (m.turn % 8) (record { file = file; block = block; board = Some board });
+  lines = slice_set m.lines (m.turn % 8) (Some (record { file = file; block = block; board = board }));
   turn = m.turn % 8 + 1;
 }
 

@@ -1,42 +1,38 @@
 //! Translations that are remembered: the eight that were learned last.
 
-ghost use Rattle.std.specs.Prelude.{◌≡◌, is_some};
+ghost use Rattle.std.specs.Prelude.{◌≡◌};
 ghost use Rattle.cached_map.specs.Remembering.{says, struck, blank_memory, recalled, remembered, without};
 
 /// So many lines are kept.
 const LINES: usize = 8;
 
-/// The board number of a block; a line without one says nothing.
+/// The board number of a block.
 #[derive(Clone, Copy)]
 pub struct Line {
     pub file: u32,
     pub block: u32,
-    pub board: Option<u32>,
+    pub board: u32,
 }
 
-impl Line {
-    /// Whether the line has a board number for a block.
-    fn tells(self, file: u32, block: u32) -> bool
-        ensures { result ≡ is_some (says file block self) }
-    {
-        self.file == file && self.block == block && self.board.is_some()
-    }
+/// The board number that a line has for a block.
+fn said(line: Option<Line>, file: u32, block: u32) -> Option<u32>
+    ensures { result ≡ says file block line }
+{
+    line.filter(|line| line.file == file && line.block == block)
+        .map(|line| line.board)
+}
 
-    /// The line, which says nothing any more if its block is one of the n of the file from `first` on.
-    fn without(mut self, file: u32, first: u32, n: u32) -> Line
-        ensures { result ≡ struck file first n self }
-    {
-        if self.file == file && self.block >= first && self.block - first < n {
-            self.board = None;
-        }
-        self
-    }
+/// The line, unless its block is one of the n of the file from `first` on.
+fn kept(line: Option<Line>, file: u32, first: u32, n: u32) -> Option<Line>
+    ensures { result ≡ struck file first n line }
+{
+    line.filter(|line| !(line.file == file && line.block >= first && line.block - first < n))
 }
 
 /// Eight lines that are written in turn, round and round, so that the next to be replaced is the oldest.
 #[derive(Clone, Copy)]
 pub struct Memory {
-    lines: [Line; LINES],
+    lines: [Option<Line>; LINES],
     turn: usize,
 }
 
@@ -46,11 +42,7 @@ impl Memory {
         ensures { result ≡ blank_memory }
     {
         Memory {
-            lines: [Line {
-                file: 0,
-                block: 0,
-                board: None,
-            }; LINES],
+            lines: [None; LINES],
             turn: 0,
         }
     }
@@ -59,8 +51,11 @@ impl Memory {
     pub fn recall(&self, file: u32, block: u32) -> Option<u32>
         ensures { result ≡ recalled self.now.lines file block }
     {
-        let line = self.lines.iter().find(|line| line.tells(file, block))?;
-        line.board
+        let line = self
+            .lines
+            .iter()
+            .find(|line| said(**line, file, block).is_some())?;
+        said(*line, file, block)
     }
 
     /// Remembers a block's board number in place of the oldest line.
@@ -68,11 +63,7 @@ impl Memory {
         ensures { self.new ≡ remembered self.old file block board }
     {
         let place = self.turn % LINES;
-        self.lines[place] = Line {
-            file,
-            block,
-            board: Some(board),
-        };
+        self.lines[place] = Some(Line { file, block, board });
         self.turn = place + 1;
     }
 
@@ -81,7 +72,7 @@ impl Memory {
         ensures { self.new ≡ without self.old file first n }
     {
         for line in self.lines.iter_mut() {
-            *line = line.without(file, first, n);
+            *line = kept(*line, file, first, n);
         }
     }
 }

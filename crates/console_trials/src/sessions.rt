@@ -1,7 +1,7 @@
 //! Sessions of the console beside the replies that are due.
 
 use console::{ConsoleError, LONGEST_INPUT, print_replies};
-use faults::{Fault, Ground, Layer};
+use faults::{Ground, Layer};
 use std::alloc::{AllocError, Global};
 use std::process::Abort;
 use std::test::*;
@@ -21,13 +21,7 @@ fn replies_are(rt: &impl Abort, heap: Global, input: &[u8], due: &[u8]) -> Resul
         print_replies(heap, input, output.as_mut_slice()),
         Ok(due.len())
     );
-    for (i, byte) in due.iter().enumerate() {
-        assert_eq!(rt;
-            output.get(i).copied(),
-            Some(*byte),
-            "a byte of the replies"
-        );
-    }
+    assert!(rt; output.as_slice().starts_with(due), "the replies");
     for byte in output.iter().skip(due.len()) {
         assert_eq!(rt; *byte, BLANK, "a byte behind the replies");
     }
@@ -39,12 +33,7 @@ fn is_refused(rt: &impl Abort, heap: Global, input: &[u8], room: usize) -> Resul
     let mut output = vec![in heap; BLANK; room]?;
     assert_eq!(rt;
         print_replies(heap, input, output.as_mut_slice()),
-        Err(ConsoleError::Refused(Fault {
-            ground: Ground::Buffer,
-            layer: Layer::Console,
-            file: 0,
-            block: 0,
-        }))
+        Err(ConsoleError::Refused(Layer::Console.refusal(Ground::Buffer, 0, 0)))
     );
     for byte in output.iter() {
         assert_eq!(rt; *byte, BLANK);
@@ -81,6 +70,13 @@ impl Session {
         self.input.push_str("\n")?;
         self.due.push_str(reply)?;
         self.due.push_str("\n")
+    }
+
+    fn lines(&mut self, lines: &[(&str, &str)]) -> Result<(), AllocError> {
+        for (line, reply) in lines {
+            self.line(line, reply)?;
+        }
+        Ok(())
     }
 
     fn run(&self, rt: &impl Abort, heap: Global) -> Result<(), Fail> {
@@ -148,7 +144,7 @@ fn bytes_that_are_no_text(rt: HostRuntime) -> Result<(), Fail> {
 #[test]
 fn refusals_by_number(rt: HostRuntime) -> Result<(), Fail> {
     let mut session = Session::new(rt.alloc());
-    for (line, reply) in [
+    session.lines(&[
         ("f 65536 65536", "no 2"),
         ("f 99999 0", "no 2"),
         ("f 65535 65536", "no 3"),
@@ -178,9 +174,7 @@ fn refusals_by_number(rt: HostRuntime) -> Result<(), Fail> {
         ("n 65535 0", "next 65535"),
         ("n 1 0", "none"),
         ("k", "keys 13"),
-    ] {
-        session.line(line, reply)?;
-    }
+    ])?;
     session.run(&rt, rt.alloc())
 }
 
@@ -196,7 +190,7 @@ fn more_keys_than_there_is_room_for(rt: HostRuntime) -> Result<(), Fail> {
         let reply = format!(in rt.alloc(); "ok {keys}")?;
         session.line(line.as_str(), reply.as_str())?;
     }
-    for (line, reply) in [
+    session.lines(&[
         ("a 93 1 4094 0", "no 13"),
         ("a 93 1 1 0", "ok 2047"),
         ("a 93 3 1 5", "ok 2048"),
@@ -207,9 +201,7 @@ fn more_keys_than_there_is_room_for(rt: HostRuntime) -> Result<(), Fail> {
         ("c 0 1 1", "ok 2047"),
         ("c 0 5 1", "ok 2048"),
         ("k", "keys 2048"),
-    ] {
-        session.line(line, reply)?;
-    }
+    ])?;
     session.run(&rt, rt.alloc())
 }
 

@@ -19,7 +19,7 @@ pub(crate) fn answer_lines<T: Table>(
     input: &[u8],
     output: &mut [u8],
 ) -> usize
-    requires kept { ⟦<ExtentMap<T> as Map>⟧.room map.old ≡ console_room }
+    requires full_room { ⟦<ExtentMap<T> as Map>⟧.room map.old ≡ console_room }
     requires fresh { ⟦<ExtentMap<T> as Map>⟧.placed map.old ≡ nowhere }
     requires room { ground_of_console (length input.now) (length output.old) ≡ None }
     ensures number { result ≡ length (transcript input.now) }
@@ -41,6 +41,6 @@ fn put(buffer: &mut [u8], at: usize, text: &[u8]) -> usize
     ensures after { buffer.new ≡ overlaid buffer.old «at» text.now }
 {
     let end = at + text.len();
-    (&mut buffer[at..end]).copy_from_slice(text);
+    buffer[at..end].copy_from_slice(text);
     end
 }

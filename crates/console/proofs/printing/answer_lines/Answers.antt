@@ -12,7 +12,7 @@ use Rattle.console.proofs.printing.answer_lines.Goals.{After-as_bytes}
 pub loop-line-init : goal.loop-line-init
 loop-line-init g c =
     let whole : unread c.into_iter-line-iterator.result ≡ c.args.input.now = search rules in (
-      c.requires.kept,
+      c.requires.full_room,
       printing_start c.args.input.now c.args.output.now (unread c.into_iter-line-iterator.result) (placing (g.T.Table.holding c.args.map.now.table))
           c.requires.fresh whole c.requires.room,
     )

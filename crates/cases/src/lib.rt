@@ -31,8 +31,8 @@ mod tests {
         worked_cases();
         for (block, starts, length) in PATHS {
             assert_eq!(rt; path_length(block), length);
-            for k in 0..4u32 {
-                assert_eq!(rt; path_key(block, k), starts[k as usize]);
+            for (k, start) in (0..4u32).zip(starts) {
+                assert_eq!(rt; path_key(block, k), start);
             }
         }
         assert_eq!(rt; Mixing.place_of(0, 1, 2048), 1591);

@@ -29,7 +29,7 @@ fn one_number_in(rt: HostRuntime) {
         assert_eq!(rt; count(&set), 0);
         set.insert(edge);
         assert_eq!(rt; has(&set, edge), edge < 4096);
-        assert_eq!(rt; count(&set), (edge < 4096) as usize);
+        assert_eq!(rt; count(&set), usize::from(edge < 4096));
         set.remove(edge);
         assert_eq!(rt; count(&set), 0);
     }

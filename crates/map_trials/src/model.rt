@@ -69,7 +69,7 @@ impl Model {
     fn mapped(&self, file: u32) -> u32 {
         (0..65536)
             .filter(|block| self.at(file, *block).is_some())
-            .fold(0, |sum: u32, _| sum.saturating_add(1))
+            .count() as u32
     }
 
     fn extents(&self, file: u32) -> u32 {
@@ -158,12 +158,8 @@ fn place_of(file: u32, block: u32) -> Option<usize> {
     if block > 65535 {
         return None;
     }
-    match file {
-        0 => Some(block as usize),
-        1 => Some(65536 + block as usize),
-        65535 => Some(131072 + block as usize),
-        _ => None,
-    }
+    let index = FILES.iter().position(|known| *known == file)?;
+    Some(65536 * index + block as usize)
 }
 
 fn refuse(ground: Ground, file: u32, block: u32) -> Result<(), Fault> {

@@ -1,7 +1,7 @@
 //! Sessions of the console beside the replies that are due.
 
 use console::{ConsoleError, LONGEST_INPUT, print_replies};
-use faults::{Ground, Layer};
+use faults::{Fault, Ground, Layer};
 use std::alloc::{AllocError, Global};
 use std::process::Abort;
 use std::test::*;
@@ -33,7 +33,12 @@ fn is_refused(rt: &impl Abort, heap: Global, input: &[u8], room: usize) -> Resul
     let mut output = vec![in heap; BLANK; room]?;
     assert_eq!(rt;
         print_replies(heap, input, output.as_mut_slice()),
-        Err(ConsoleError::Refused(Layer::Console.refusal(Ground::Buffer, 0, 0)))
+        Err(ConsoleError::Refused(Fault {
+            ground: Ground::Buffer,
+            layer: Layer::Console,
+            file: 0,
+            block: 0,
+        }))
     );
     for byte in output.iter() {
         assert_eq!(rt; *byte, BLANK);

@@ -162,8 +162,14 @@ fn place_of(file: u32, block: u32) -> Option<usize> {
     Some(65536 * index + block as usize)
 }
 
+/// A refusal, written out: what is tried has no part in what is due.
 fn refuse(ground: Ground, file: u32, block: u32) -> Result<(), Fault> {
-    Err(Layer::Map.refusal(ground, file, block))
+    Err(Fault {
+        ground,
+        layer: Layer::Map,
+        file,
+        block,
+    })
 }
 
 fn admit(file: u32, first: u32, n: u32) -> Result<(), Fault> {

@@ -10,12 +10,12 @@ use Rattle.block_set.proofs.Rows.{none_past}
 
 -- ---- one word
 
-pub fewer : (w x : ℕ) → w < 2 ^ 64 → x < 2 ^ 64 → bit (bit_and w (2 ^ 64 - 1 - x)) ≡ without (bit w) (bit x)
-fewer w x l m =
-    fun_ext (λ i. elim (cases_lt i 64) [
-      | inl h ↦ bit_of_and w (2 ^ 64 - 1 - x) i ∙ ap (λ (v : Bool). bit w i && v) (bit_not x i m h)
-      | inr h ↦ bit_past 64 (bit_and w (2 ^ 64 - 1 - x)) i (let a = and_le_l w (2 ^ 64 - 1 - x) in omega arith) h
-          ∙ sym (ap (λ (v : Bool). v && not (bit x i)) (bit_past 64 w i l h))
+pub fewer : (n w x : ℕ) → w < 2 ^ n → x < 2 ^ n → bit (bit_and w (2 ^ n - 1 - x)) ≡ without (bit w) (bit x)
+fewer n w x l m =
+    fun_ext (λ i. elim (cases_lt i n) [
+      | inl h ↦ bit_of_and w (2 ^ n - 1 - x) i ∙ ap (λ (v : Bool). bit w i && v) (bit_not n x i m h)
+      | inr h ↦ bit_past n (bit_and w (2 ^ n - 1 - x)) i (let a = and_le_l w (2 ^ n - 1 - x) in omega arith) h
+          ∙ sym (ap (λ (v : Bool). v && not (bit x i)) (bit_past n w i l h))
     ])
 
 -- ---- the first words of a row

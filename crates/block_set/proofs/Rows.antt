@@ -23,10 +23,13 @@ pub none_of_zeros : (n : ℕ) → bit_of (replicate n 0) ≡ none
 unfolding bit_of
 none_of_zeros n = fun_ext (λ i. ap (λ (w : ℕ). bit w (i % 64)) (nothing n (i / 64)) ∙ bit_zero (i % 64))
 
+past : (words : List ℕ) (i : ℕ) → length words ≤ i → get_or words i 0 ≡ 0
+past words i = get_or_past words i 0
+
 -- past the last word no bit is one,
 pub none_past : (words : List ℕ) (i : ℕ) → length words ≤ i / 64 → bit_of words i ≡ false
 unfolding bit_of
-none_past words i l = ap (λ (w : ℕ). bit w (i % 64)) (get_or_past words (i / 64) 0 l) ∙ bit_zero (i % 64)
+none_past words i l = ap (λ (w : ℕ). bit w (i % 64)) (past words (i / 64) l) ∙ bit_zero (i % 64)
 
 -- so that none there can be cleared
 pub clear_past : (words : List ℕ) (p : ℕ) → length words ≤ p / 64 → bit_of words ≡ put (bit_of words) p false

@@ -7,7 +7,7 @@ ghost use Rattle.ledger.specs.Free.{first_free};
 ghost use Rattle.ledger.specs.Store.{put};
 ghost use Rattle.block_set.specs.Members.{member, none, inserted, without};
 
-use bits::{first_zero, with_bit};
+use bits::{first_zero, put_bit};
 use blocks::BOARD_BLOCKS;
 
 /// A set of board numbers below 4,096: the bit of a number is one where the set has it.
@@ -45,7 +45,7 @@ impl BlockSet {
     {
         if number < BOARD_BLOCKS {
             let word = (number / 64) as usize;
-            self.words[word] = with_bit(self.words[word], number, value);
+            self.words[word] = put_bit(self.words[word], number, value);
         }
     }
 

@@ -5,7 +5,7 @@ use Rattle.block_set.proofs.BlockSet.put.Goals as goal
 
 pub returns-then-number-lt-BOARD_BLOCKS : goal.returns-then-number-lt-BOARD_BLOCKS
 returns-then-number-lt-BOARD_BLOCKS c =
-    change_one c.args.self.now.words c.args.number c.with_bit.result c.args.value (omega arith) c.with_bit.ensures
+    change_one c.args.self.now.words c.args.number c.put_bit.result c.args.value (omega arith) c.put_bit.ensures
     ∙ sym (cond-true _ _ _ (lt-ltb c.args.number 4096 (omega arith)))
 
 pub returns-else-number-lt-BOARD_BLOCKS : goal.returns-else-number-lt-BOARD_BLOCKS

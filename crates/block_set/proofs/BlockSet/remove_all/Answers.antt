@@ -10,7 +10,7 @@ pub loop-i-preserved : goal.loop-i-preserved
 loop-i-preserved c =
     let i = c.loop-i.i in
     partly_more c.loop-i.self.words c.args.others.now.words (member c.args.self.now) i _ (omega arith) c.loop-i.invariant
-    (fewer (get_or c.loop-i.self.words i 0) (get_or c.args.others.now.words i 0) (omega arith) (omega arith))
+    (fewer 64 (get_or c.loop-i.self.words i 0) (get_or c.args.others.now.words i 0) (omega arith) (omega arith))
 
 pub returns : goal.returns
 returns c =

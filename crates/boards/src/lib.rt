@@ -20,9 +20,11 @@ pub trait Board {
 
     ghost block: { Self → ℕ → List ℕ };
 
-    /// How many blocks there are.
+    /// How many blocks there are: at most 4,096, and each of 4,096 bytes.
     fn blocks(&self) -> u32
-        ensures { result ≡ size self.now };
+        ensures answer { result ≡ size self.now }
+        ensures bounded { size self.now ≤ 4096 }
+        ensures full { (i : ℕ) → i < size self.now → length (block self.now i) ≡ 4096 };
 
     /// Copies a block out.
     fn read(&mut self, number: u32, to: &mut [u8]) -> Result<(), Fault>

@@ -23,13 +23,16 @@ pub trait Reading {
 
     ghost bytes: { Self → Contents };
 
-    /// How many files there are.
+    /// How many files there are: at most 65,536.
     fn files(&self) -> u32
-        ensures { result ≡ files self.now };
+        ensures answer { result ≡ files self.now }
+        ensures bounded { files self.now ≤ 65536 };
 
-    /// How many blocks each file has.
+    /// How many blocks each file has: at most 65,536, and each of 4,096 bytes.
     fn width(&self) -> u32
-        ensures { result ≡ width self.now };
+        ensures answer { result ≡ width self.now }
+        ensures bounded { width self.now ≤ 65536 }
+        ensures full { (f b : ℕ) → f < files self.now → b < width self.now → length (bytes self.now f b) ≡ 4096 };
 
     /// Both at once.
     final fn sizes(&self) -> Sizes

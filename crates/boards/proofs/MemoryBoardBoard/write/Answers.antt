@@ -13,7 +13,7 @@ returns c =
     let e = c.copy_from_slice.ensures.after in
     let n = ap length e in
     let brought = granted c.blocks-2.result number (length new) c.in_ok-admit.ensures in
-    let within : number < size_in memory = omega (arith, c.blocks-2.ensures) in
+    let within : number < size_in memory = omega (arith, c.blocks-2.ensures.answer) in
     let whole = brought.1 in
     let written =
     overlaid_put memory c.copy_from_slice.new.self (number * 4096) ((number * 4096 + 4096) - number * 4096) (omega arith)

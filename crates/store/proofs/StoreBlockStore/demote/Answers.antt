@@ -12,7 +12,7 @@ returns g c =
     let map = c.copy_down.ensures.map in
     clauses (
     demotes c.args.file v c.admit_file.ensures c.in_ok-admit_file.was
-    (c.vacate_file.ensures.room ∙ map.same_room) map.same_place (c.width.ensures ∙ low.same_width)
+    (c.vacate_file.ensures.room ∙ map.same_room) map.same_place (c.width.ensures.answer ∙ low.same_width)
     c.vacate_file.ensures.step c.copy_down.ensures.board low)
 
 pub invariant_of-self-2 : goal.invariant_of-self-2
@@ -24,6 +24,6 @@ invariant_of-self-2 g c =
     let map = c.copy_down.ensures.map in record {
       in_step = (
           demotes c.args.file v c.admit_file.ensures c.in_ok-admit_file.was
-          (c.vacate_file.ensures.room ∙ map.same_room) map.same_place (c.width.ensures ∙ low.same_width)
+          (c.vacate_file.ensures.room ∙ map.same_room) map.same_place (c.width.ensures.answer ∙ low.same_width)
           c.vacate_file.ensures.step c.copy_down.ensures.board low).in_step;
     }

@@ -30,7 +30,7 @@ returns-in_err-number-in-None-2 g c =
     rw (p.1, p.2) (clauses (
     not_claimed c.args.file c.args.block c.args.mark c.args.from.now c.args.self.now.in_step c.admit_write.ensures c.in_ok-admit_write.was
     c.board_of.ensures.map.same_room c.claim.ensures.room c.board_of.ensures.map.same_place c.in-None.ensures.answer kept
-    c.blocks-size.ensures (g.met.L.Reading.few c.args.self.now.lower) (g.met.L.Reading.narrow c.args.self.now.lower) (g.met.B.Board.bounded c.args.self.now.board)
+    c.blocks-size.ensures.answer (g.met.L.Reading.few c.args.self.now.lower) (g.met.L.Reading.narrow c.args.self.now.lower) (g.met.B.Board.bounded c.args.self.now.board)
     c.claim.ensures.step c.in_err-number-in-None-2.field-0.0 c.in_err-number-in-None-2.was))
 
 pub returns-in_ok-number-in-None-2 : goal.returns-in_ok-number-in-None-2
@@ -39,7 +39,7 @@ returns-in_ok-number-in-None-2 g c =
     clauses (
     is_claimed c.args.file c.args.block c.args.mark c.args.from.now c.args.self.now.in_step c.admit_write.ensures c.in_ok-admit_write.was
     c.board_of.ensures.map.same_room c.claim.ensures.room c.board_of.ensures.map.same_place c.in-None.ensures.answer kept
-    c.blocks-size.ensures (g.met.L.Reading.few c.args.self.now.lower) (g.met.L.Reading.narrow c.args.self.now.lower) (g.met.B.Board.bounded c.args.self.now.board)
+    c.blocks-size.ensures.answer (g.met.L.Reading.few c.args.self.now.lower) (g.met.L.Reading.narrow c.args.self.now.lower) (g.met.B.Board.bounded c.args.self.now.board)
     c.claim.ensures.step c.in_ok-number-in-None-2.was c.write-in-None-2.ensures)
 
 -- map, pool and sizes are in step again, however the write went
@@ -64,7 +64,7 @@ invariant_of-self-in-Break-branch-2 g c =
       in_step = (
           not_claimed c.args.file c.args.block c.args.mark c.args.from.now c.args.self.now.in_step c.admit_write.ensures c.in_ok-admit_write.was
           c.board_of.ensures.map.same_room c.claim.ensures.room c.board_of.ensures.map.same_place c.in-None.ensures.answer kept
-          c.blocks-size.ensures (g.met.L.Reading.few c.args.self.now.lower) (g.met.L.Reading.narrow c.args.self.now.lower) (g.met.B.Board.bounded c.args.self.now.board)
+          c.blocks-size.ensures.answer (g.met.L.Reading.few c.args.self.now.lower) (g.met.L.Reading.narrow c.args.self.now.lower) (g.met.B.Board.bounded c.args.self.now.board)
           c.claim.ensures.step c.in_err-number-in-None-2.field-0.0 c.in_err-number-in-None-2.was).in_step;
     }
 
@@ -74,6 +74,6 @@ invariant_of-self-in-None-2 g c =
       in_step = (
           is_claimed c.args.file c.args.block c.args.mark c.args.from.now c.args.self.now.in_step c.admit_write.ensures c.in_ok-admit_write.was
           c.board_of.ensures.map.same_room c.claim.ensures.room c.board_of.ensures.map.same_place c.in-None.ensures.answer kept
-          c.blocks-size.ensures (g.met.L.Reading.few c.args.self.now.lower) (g.met.L.Reading.narrow c.args.self.now.lower) (g.met.B.Board.bounded c.args.self.now.board)
+          c.blocks-size.ensures.answer (g.met.L.Reading.few c.args.self.now.lower) (g.met.L.Reading.narrow c.args.self.now.lower) (g.met.B.Board.bounded c.args.self.now.board)
           c.claim.ensures.step c.in_ok-number-in-None-2.was c.write-in-None-2.ensures).in_step;
     }

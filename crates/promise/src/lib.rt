@@ -2,9 +2,9 @@
 
 #![tactic(auto)]
 
-ghost use Rattle.promise.specs.Ends.{Kept, Compared};
+ghost use Rattle.promise.specs.Ends.{Compared};
 ghost use Rattle.requests.specs.Requests.{asks, tells};
-ghost use Rattle.store.specs.Whole.{shaped};
+ghost use Rattle.store.specs.Whole.{shaped, Made};
 
 use boards::Board;
 use lowers::Lower;
@@ -20,19 +20,12 @@ pub struct Parts<M, B, L> {
     pub lower: L,
 }
 
-/// Makes a new store over whatever parts there are, runs two lists of requests on it, one after the other, and hands the store back.
-fn serve_end<M: Map, B: Board, L: Lower>(
-    parts: Parts<M, B, L>,
-    own: &mut [Request],
-    later: &mut [Request],
-) -> Store<M, B, L>
-    ensures { Kept (record { shape = shaped M.Map.rule (M.Map.room parts.map) (B.Board.size parts.board) (L.Reading.files parts.lower) (L.Reading.width parts.lower); board = B.Board.block parts.board; lower = L.Reading.bytes parts.lower; own = asks own.old; later = asks later.old; own_told = tells own.new; later_told = tells later.new; shape_after = ⟦<Store<M, B, L> as BlockStore>⟧.shape result; state_after = ⟦<Store<M, B, L> as BlockStore>⟧.state result }) }
+/// A new store over whatever parts there are.
+fn opened<M: Map, B: Board, L: Lower>(parts: Parts<M, B, L>) -> Store<M, B, L>
+    ensures { Made (shaped M.Map.rule (M.Map.room parts.map) (B.Board.size parts.board) (L.Reading.files parts.lower) (L.Reading.width parts.lower)) (B.Board.block parts.board) (L.Reading.bytes parts.lower) (⟦<Store<M, B, L> as BlockStore>⟧.shape result) (⟦<Store<M, B, L> as BlockStore>⟧.state result) }
 {
     let Parts { map, board, lower } = parts;
-    let mut store = Store::new(map, board, lower);
-    run(&mut store, own);
-    run(&mut store, later);
-    store
+    Store::new(map, board, lower)
 }
 
 /// Makes two new stores, the club's and the server's, over whatever parts each has; runs each end's own requests, then the later ones on both,
@@ -53,7 +46,11 @@ pub fn compare<M: Map, B: Board, L: Lower, N: Map, C: Board, K: Lower>(
 ) -> (Store<M, B, L>, Store<N, C, K>)
     ensures { Compared (record { shape = shaped M.Map.rule (M.Map.room club.map) (B.Board.size club.board) (L.Reading.files club.lower) (L.Reading.width club.lower); board = B.Board.block club.board; lower = L.Reading.bytes club.lower; own = asks club_own.old; later = asks club_later.old; own_told = tells club_own.new; later_told = tells club_later.new; shape_after = ⟦<Store<M, B, L> as BlockStore>⟧.shape result.0; state_after = ⟦<Store<M, B, L> as BlockStore>⟧.state result.0 }) (record { shape = shaped N.Map.rule (N.Map.room server.map) (C.Board.size server.board) (K.Reading.files server.lower) (K.Reading.width server.lower); board = C.Board.block server.board; lower = K.Reading.bytes server.lower; own = asks server_own.old; later = asks server_later.old; own_told = tells server_own.new; later_told = tells server_later.new; shape_after = ⟦<Store<N, C, K> as BlockStore>⟧.shape result.1; state_after = ⟦<Store<N, C, K> as BlockStore>⟧.state result.1 }) }
 {
-    let at_club = serve_end(club, club_own, club_later);
-    let at_server = serve_end(server, server_own, server_later);
+    let mut at_club = opened(club);
+    let mut at_server = opened(server);
+    run(&mut at_club, club_own);
+    run(&mut at_server, server_own);
+    run(&mut at_club, club_later);
+    run(&mut at_server, server_later);
     (at_club, at_server)
 }

@@ -54,7 +54,13 @@ pub fn drop_file<T: Table>(table: &mut T, file: u16)
     ensures room { T.Table.places table.new ≡ T.Table.places table.old }
     ensures after { T.Table.holding table.new ≡ changed (T.Table.holding table.old) file every (λ _. None) }
 {
-    while let Some(row) = table.first_from(file, 0) {
+    let mut from = 0;
+    while let Some(row) = table.first_from(file, from) {
         let _ = table.remove(file, row.block);
+        // the next search begins behind this key, since a table may search block by block
+        let Some(next) = row.block.checked_add(1) else {
+            return;
+        };
+        from = next;
     }
 }

@@ -171,9 +171,9 @@ fn extents<T: Table + Drop>(
     rt: &impl Abort,
     heap: Global,
     table: T,
+    room: u32,
     seed: u64,
 ) -> Result<(), Fail> {
-    let room = table.room();
     let mut map = ExtentMap::new(table);
     let model = run(rt, heap, &mut map, Rule::Extents, room, seed)?;
     assert_eq!(rt; map.keys_held(), model.keys());
@@ -184,9 +184,9 @@ fn single_blocks<T: Table + Drop>(
     rt: &impl Abort,
     heap: Global,
     table: T,
+    room: u32,
     seed: u64,
 ) -> Result<(), Fail> {
-    let room = table.room();
     let mut map = BlockMap::new(table);
     run(rt, heap, &mut map, Rule::Blocks, room, seed)?;
     Ok(())
@@ -208,26 +208,26 @@ fn cached<M: Map + Drop>(
 #[test]
 fn extents_with_room(rt: HostRuntime) -> Result<(), Fail> {
     let heap = rt.alloc();
-    extents(&rt, heap, ProbingTable::new(heap, 2048, Mixing)?, 1)?;
-    extents(&rt, heap, OrderedTable::new(heap, 2048)?, 2)
+    extents(&rt, heap, ProbingTable::new(heap, 2048, Mixing)?, 2048, 1)?;
+    extents(&rt, heap, OrderedTable::new(heap, 2048)?, 2048, 2)
 }
 
 #[test]
 fn extents_in_a_crowded_table(rt: HostRuntime) -> Result<(), Fail> {
     let heap = rt.alloc();
-    extents(&rt, heap, ProbingTable::new(heap, 40, Level)?, 3)?;
-    extents(&rt, heap, OrderedTable::new(heap, 12)?, 4)?;
-    extents(&rt, heap, ProbingTable::new(heap, 1, Mixing)?, 5)?;
-    extents(&rt, heap, OrderedTable::new(heap, 0)?, 6)
+    extents(&rt, heap, ProbingTable::new(heap, 40, Level)?, 40, 3)?;
+    extents(&rt, heap, OrderedTable::new(heap, 12)?, 12, 4)?;
+    extents(&rt, heap, ProbingTable::new(heap, 1, Mixing)?, 1, 5)?;
+    extents(&rt, heap, OrderedTable::new(heap, 0)?, 0, 6)
 }
 
 #[test]
 fn single_blocks_with_and_without_room(rt: HostRuntime) -> Result<(), Fail> {
     let heap = rt.alloc();
-    single_blocks(&rt, heap, ProbingTable::new(heap, 2048, Mixing)?, 7)?;
-    single_blocks(&rt, heap, OrderedTable::new(heap, 2048)?, 8)?;
-    single_blocks(&rt, heap, ProbingTable::new(heap, 60, Level)?, 9)?;
-    single_blocks(&rt, heap, OrderedTable::new(heap, 5)?, 10)
+    single_blocks(&rt, heap, ProbingTable::new(heap, 2048, Mixing)?, 2048, 7)?;
+    single_blocks(&rt, heap, OrderedTable::new(heap, 2048)?, 2048, 8)?;
+    single_blocks(&rt, heap, ProbingTable::new(heap, 60, Level)?, 60, 9)?;
+    single_blocks(&rt, heap, OrderedTable::new(heap, 5)?, 5, 10)
 }
 
 #[test]

@@ -1,7 +1,8 @@
 -- What holds as blocks and files are carried one by one.
-use Rattle.std.proofs.Common.{◌≡◌, ℕ, ◌+◌, ◌*◌, min, Bool, true, false, cond, not, ◌&&◌, eqb, ltb, List, [], ◌∷◌, length, get_or, refl, sym, ap, ◌∙◌, zero, suc, arith}
+use Rattle.std.proofs.Common.{◌≡◌, ℕ, ◌+◌, ◌-◌, ◌*◌, ◌^◌, ◌<◌, ◌≤◌, min, Bool, true, false, cond, not, ◌&&◌, eqb, ltb, List, [], ◌∷◌, length, get_or, refl, sym, ap, ◌∙◌, zero, suc, arith}
 use Rattle.std.specs.List.{count_by, zip}
 use Rattle.std.proofs.lemmas.List.Sums.{sum_by-cons}
+use Rattle.std.proofs.lemmas.Slice.Zip.{length-zip}
 use Rattle.blocks.specs.Blocks.{Contents, one, sum}
 use Rattle.lowers.specs.Lowers.{Holds}
 use Rattle.carrying.specs.Carrying.{file_carried, blocks_carried, differing}
@@ -48,3 +49,7 @@ differ_zip (x ∷ left) (y ∷ right) =
     ∙ ap (λ (k : ℕ). one (not (eqb x y)) + k) (differ_zip left right)
     ∙ sym front
     ∙ ap (λ (k : ℕ). differing k (x ∷ left) (y ∷ right)) (let e : suc n ≡ min (length (x ∷ left)) (length (y ∷ right)) = omega arith in e)
+
+-- there are no more pairs than a length can be
+pub few_pairs : (left right : List ℕ) → length left < 2 ^ 64 → length (zip left right) ≤ 2 ^ 64 - 1
+few_pairs left right few = omega (arith, few, length-zip left right)

@@ -65,6 +65,6 @@ fn pairs_differing(left: &[u8], right: &[u8]) -> usize
 {
     left.iter()
         .zip(right.iter())
-        .filter(|(l, r)| **l != **r)
-        .count()
+        .map(|(l, r)| usize::from(l != r))
+        .sum()
 }

@@ -2,7 +2,7 @@
 
 #![tactic(auto)]
 
-ghost use Rattle.std.specs.Prelude.{◌≡◌, ◌==◌, find, option_map};
+ghost use Rattle.std.specs.Prelude.{◌≡◌, ◌==◌, find, option_map, position};
 ghost use Rattle.extents.specs.Extents.{KeyTable, entry, path, first_held_key, says, lookup, tried};
 ghost use Rattle.extents.specs.Runs.{table_of};
 
@@ -33,9 +33,15 @@ impl Keys for Vec<Key> {
 fn entry_in(keys: &[Key], start: u16) -> Option<Entry>
     ensures { result ≡ option_map (λ k. entry k.length k.board) (find (λ k. k.start == start) keys.now) }
 {
-    keys.iter()
-        .find(|key| key.start == start)
-        .map(|key| key.entry())
+    let at = place_of(keys, start)?;
+    Some(keys[at].entry())
+}
+
+/// Where the first key of the list that begins at a start stands.
+fn place_of(keys: &[Key], start: u16) -> Option<usize>
+    ensures { result ≡ position (λ k. k.start == start) keys.now }
+{
+    keys.iter().position(|key| key.start == start)
 }
 
 /// The first key that is held on a path, and how many keys were tried.

@@ -22,8 +22,21 @@ pub fn path_length(block: u32) -> u32
 pub fn path_key(block: u32, k: u32) -> u32
     ensures { result ≡ key_on_path block k }
 {
-    let Ok(block) = u16::try_from(block) else {
+    let Ok(first) = u16::try_from(block) else {
         return 65536;
     };
-    Path::of(block).nth(k as usize).map_or(65536, u32::from)
+    // The first key starts at the block. The others are counted, which is quicker here than `nth`.
+    let mut path = Path::of(first);
+    let _ = path.next();
+    if k == 0 {
+        return block;
+    }
+    let mut i = 1;
+    for start in path {
+        if i == k {
+            return u32::from(start);
+        }
+        i += 1;
+    }
+    65536
 }

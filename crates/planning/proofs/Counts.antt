@@ -15,7 +15,7 @@ use Rattle.lines.specs.Lines.{before, behind, fields, lines}
 use Rattle.lines.proofs.Steps.{rest_shorter, lines_none, lines_more}
 use Rattle.planning.specs.declared.summary.Run.{Run}
 use Rattle.planning.specs.declared.summary.Summary.{Summary}
-use Rattle.planning.specs.Plans.{is_at, right_in, most_tried, run_in_line, admitted, asked, outcome, keys_of, line_text, lines_text, counted, nothing, counted_from, summary_of}
+use Rattle.planning.specs.Plans.{is_at, right_in, most_tried, Room, run_in_line, admitted, asked, outcome, keys_of, line_text, lines_text, counted, nothing, counted_from, summary_of}
 use Rattle.planning.proofs.Texts.{lines_next, lines_done}
 
 -- what is counted of the first i blocks
@@ -90,8 +90,14 @@ pub record Bounded (s : Summary) : Type 0 where
   pub keys : s.keys ≤ 4096 * s.lines
   pub right : s.right ≡ s.blocks
 
-bounded_start : Bounded nothing
+pub bounded_start : Bounded nothing
 bounded_start = record { planned = omega arith; refused = omega arith; blocks = omega arith; keys = omega arith; right = refl }
+
+pub bounded_room : (s : Summary) → Bounded s → s.lines < 2 ^ 32 → Room s
+bounded_room s b l =
+    let r = b.right in
+    let k = b.blocks in
+    record { lines = l; planned = b.planned; refused = b.refused; blocks = b.blocks; keys = b.keys; right = omega arith }
 
 bounded_next : (s : Summary) (o : Option Run) → Bounded s → Bounded (counted s (asked o))
 bounded_next s None b =
@@ -127,7 +133,7 @@ bounded_next s (Some run) b = at (ground_of_run run.first run.blocks run.board) 
         }
     at (Some g) e = record { planned = omega (arith, p); refused = omega (arith, r); blocks = omega (arith, k); keys = omega (arith, y); right = b.right }
 
-bounded_all : (s : Summary) (ls : List (List ℕ)) → Bounded s → Bounded (counted_from s ls)
+pub bounded_all : (s : Summary) (ls : List (List ℕ)) → Bounded s → Bounded (counted_from s ls)
 unfolding counted_from
 bounded_all s [] b = b
 bounded_all s (l ∷ ls) b = bounded_all (counted s (outcome l)) ls (bounded_next s (run_in_line (fields 3 (Some l))) b)
@@ -144,7 +150,19 @@ pub record Planning (input text : List ℕ) (counts : Summary) (rest : List ℕ)
   pub few : counts.lines + length rest ≤ length input
   pub short : length input < 2 ^ 32
 
+pub planning_start : (input text rest : List ℕ) (counts : Summary) → length input < 2 ^ 32 → text ≡ [] → rest ≡ input → counts ≡ nothing → Planning input text counts rest
+planning_start input text rest counts short t r c = record {
+  texts = ap (λ x. x ++ lines_text (lines rest)) t ∙ ap (λ x. lines_text (lines x)) r;
+  counts_are = ap (λ x. counted_from x (lines rest)) c ∙ ap (λ x. summary_of (lines x)) r;
+  bounded = subst Bounded (sym c) bounded_start;
+  few = let a = ap (λ s. s.lines) c in let b = ap length r in omega arith;
+  short = short;
+}
+
 module _ (input text : List ℕ) (counts : Summary) (rest : List ℕ) (h : Planning input text counts rest) where
+  pub planning_room : 0 < length rest → Room counts
+  planning_room l = let f = h.few in let s = h.short in bounded_room counts h.bounded (omega arith)
+
   pub planning_next : (line rest' text' : List ℕ) (counts' : Summary) → 0 < length rest → line ≡ before 10 rest → rest' ≡ unwrap_or (behind 10 rest) []
       → text' ≡ text ++ line_text (outcome line) → counts' ≡ counted counts (outcome line) → Planning input text' counts' rest'
   unfolding counted_from

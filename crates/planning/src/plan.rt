@@ -37,7 +37,15 @@ impl fmt::Display for PlanError {
 
 impl Error for PlanError {}
 
-/// By hand: a clause names the case that `?` makes.
+/// By hand, as the next: a clause names the case that `?` makes.
+impl From<fmt::Error> for PlanError {
+    ghost from_gives = { λ _ r. r ≡ NoMemory };
+
+    fn from(_error: fmt::Error) -> PlanError {
+        PlanError::NoMemory
+    }
+}
+
 impl From<AllocError> for PlanError {
     ghost from_gives = { λ _ r. r ≡ NoMemory };
 

@@ -1,5 +1,5 @@
 -- What each change of one slot means.
-use Rattle.std.specs.Prelude.{◌≡◌, ℕ, zero, suc, ◌+◌, ◌<◌, ◌≤◌, true, false, ◌≢◌, ◌⊎◌, List, [], ◌∷◌, length, set, is_some, unwrap_or, Some, None, Option, refl}
+use Rattle.std.specs.Prelude.{◌≡◌, ℕ, zero, suc, ◌+◌, ◌<◌, ◌≤◌, true, false, ◌≢◌, ◌⊎◌, List, [], ◌∷◌, ◌++◌, length, set, is_some, unwrap_or, Some, None, Option, refl}
 use Rattle.std.proofs.Common.{sym, ap, ◌∙◌, inl, inr, arith, length-set, get_or-set_same, get_or-set_other}
 use Rattle.std.specs.Option.{option_map}
 use Rattle.std.proofs.lemmas.List.{get_or_past}
@@ -88,6 +88,12 @@ occupied_free (x ∷ xs) (suc i) l u = omega (arith, occupied_free xs i (omega a
 pub occupied_none : (xs : List Slot) → ((x : ℕ) → used (slot_at xs x) ≡ false) → occupied xs ≡ 0
 occupied_none [] h = refl
 occupied_none (x ∷ xs) h = omega (arith, bit_free x (h 0), occupied_none xs (λ i. h (suc i)))
+
+pub push_free : (xs : List Slot) (s : Slot) → ((x : ℕ) → used (slot_at xs x) ≡ false) → used s ≡ false → (x : ℕ) → used (slot_at (xs ++ s ∷ []) x) ≡ false
+push_free [] s h e zero = e
+push_free [] s h e (suc x) = refl
+push_free (y ∷ xs) s h e zero = h 0
+push_free (y ∷ xs) s h e (suc x) = push_free xs s (λ i. h (suc i)) e x
 
 -- ---- one slot is changed
 

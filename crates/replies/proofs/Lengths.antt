@@ -1,5 +1,5 @@
 -- Five bytes for each byte of the text and five more are enough.
-use Rattle.std.proofs.Common.{◌≡◌, ℕ, suc, ◌+◌, ◌^◌, ◌<◌, ◌≤◌, Bool, true, false, cond, eqb, ◌⊎◌, List, [], ◌∷◌, ◌++◌, length, Some, None, codes, decimal, Option, sym, refl, ap, inl, inr, ◌∙◌, unwrap_or, arith, length-append, length-drop}
+use Rattle.std.proofs.Common.{◌≡◌, ℕ, suc, ◌+◌, ◌^◌, ◌<◌, ◌≤◌, Bool, true, false, cond, eqb, ◌⊎◌, List, [], ◌∷◌, ◌++◌, length, Some, None, codes, decimal, Option, sym, refl, ap, inl, inr, arith, length-append}
 use Rattle.std.proofs.lemmas.Fmt.{length-decimal-le}
 use Rattle.std.specs.Option.{option_map}
 use Rattle.faults.specs.declared.Ground.{Ground}
@@ -11,7 +11,7 @@ use Rattle.commands.specs.declared.reply.Reply.{Reply}
 use Rattle.commands.specs.declared.reply.Reply.TheVariants.{Granted, Refused, At, Hole, NextAt, NoNext, Held}
 use Rattle.commands.specs.Commands.{reply_text, lettered, command_in, assign_command, clear_command, find_command, next_command, keys_command}
 use Rattle.lines.specs.Lines.{before, behind, fields, number, both}
-use Rattle.lines.proofs.Cuts.{before_le, cut_behind}
+use Rattle.lines.proofs.Cuts.{before_le}
 
 -- the numbers of a reply are as small as a console's are
 abbrev pub Small : Reply → Type 0
@@ -67,6 +67,16 @@ ground_small TableFull = omega arith
 
 -- ---- how long a line is
 
+pub cut_length : (at : ℕ) (bs r : List ℕ) → behind at bs ≡ Some r → length (before at bs) + 1 + length r ≡ length bs
+unfolding before behind
+cut_length at [] r e = cc
+cut_length at (c ∷ cs) r e = go (eqb c at) e (cut_length at cs r)
+  where
+    go : (b : Bool) → cond b (Some cs) (behind at cs) ≡ Some r → (behind at cs ≡ Some r → length (before at cs) + 1 + length r ≡ length cs)
+        → length (cond b [] (c ∷ before at cs)) + 1 + length r ≡ suc (length cs)
+    go true f more = let g : cs ≡ r = cc in omega (arith, ap length g)
+    go false f more = omega (arith, more f)
+
 number_some : (bs : List ℕ) (v : ℕ) → number bs ≡ Some v → 1 ≤ length bs
 number_some [] v e = cc
 number_some (c ∷ cs) v e = omega arith
@@ -109,7 +119,7 @@ line_long line c h = go (before 32 line) refl h
   where
     one : (x : ℕ) → before 32 line ≡ x ∷ [] → (c ≡ Keys) ⊎ Left (behind 32 line) → ((c ≡ Keys) × (1 ≤ length line)) ⊎ (3 ≤ length line)
     one x e (inl k) = inl (k, omega (arith, ap length e, before_le 32 line))
-    one x e (inr l) = inr (omega (arith, ap length e, ap length (cut_behind 32 line ∙ ap (λ o. unwrap_or o []) l.1), length-drop (length (before 32 line) + 1) line, l.2))
+    one x e (inr l) = inr (omega (arith, ap length e, cut_length 32 line l.0 l.1, l.2))
 
     go : (f : List ℕ) → before 32 line ≡ f → lettered f (behind 32 line) ≡ Some c → ((c ≡ Keys) × (1 ≤ length line)) ⊎ (3 ≤ length line)
     go [] e g = cc

@@ -10,7 +10,7 @@ use crate::walk::{Run, Walk};
 use blocks::{BOARD_BLOCKS, EXTENT_BLOCKS, NUMBERS};
 use extents::key::Key;
 use faults::Ground;
-use std::alloc::{AllocError, Global};
+use std::alloc::{AllocError, AllocFailed, Global};
 
 /// The length of the largest aligned extent that starts at a block and has at most so many blocks; 0 where none is left.
 pub fn piece_length(block: u32, left: u32) -> u32
@@ -83,12 +83,20 @@ pub enum RunError {
     NoMemory,
 }
 
-/// By hand, as the next: a clause names the case that `?` makes.
+/// By hand, as the next two: a clause names the case that `?` makes.
 impl From<Ground> for RunError {
     ghost from_gives = { λ ground r. r ≡ Unadmitted ground };
 
     fn from(ground: Ground) -> RunError {
         RunError::Unadmitted(ground)
+    }
+}
+
+impl From<AllocFailed<Key>> for RunError {
+    ghost from_gives = { λ _ r. r ≡ NoMemory };
+
+    fn from(_refused: AllocFailed<Key>) -> RunError {
+        RunError::NoMemory
     }
 }
 

@@ -1,5 +1,6 @@
-use Rattle.std.proofs.Common.{vec_items, arith}
+use Rattle.std.proofs.Common.{vec_items, subst, of_calls, arith}
 use Rattle.probing.specs.Probing.{home_in}
+use Rattle.probing.specs.Slots.{Sound}
 use Rattle.probing.proofs.TableLaws.{absent_free, absent_full, dropped, not_dropped}
 use Rattle.probing.proofs.table.ProbingTableTable.remove.Goals as goal
 
@@ -15,7 +16,7 @@ invariant_of-self g c =
     let t = c.args.self.now in
     let d = dropped (home_in t) t.room (vec_items t.slots.slots) (vec_items c.close.new.slots.slots) t.held c.args.file c.args.block c.in-Found.i
     (omega arith) (omega arith) (omega (arith, t.sound.long, c.close.ensures.len)) t.sound c.in-Found.ensures (c.close.ensures.closed (omega (arith, t.sound.long))) in
-    record { sound = d.0; few = t.few }
+    record { sound = subst (Sound (home_in t) t.room (vec_items c.close.new.slots.slots)) (search of_calls) d.0; few = t.few }
 
 pub returns-in-Found-clause-answer : goal.returns-in-Found-clause-answer
 returns-in-Found-clause-answer g c =
